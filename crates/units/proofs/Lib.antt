@@ -1,0 +1,3 @@
+pub mod Words
+pub mod Nesting
+pub mod Scanned

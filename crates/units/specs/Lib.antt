@@ -1,0 +1,4 @@
+pub mod Guards
+pub mod Records
+pub mod Scans
+pub mod Views
