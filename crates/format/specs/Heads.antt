@@ -1,7 +1,8 @@
 -- The head of a delivery: what its numbers say, and which rule of it fails first.
 use mathlib.Core.Bool.{Bool, _&&_}
-use mathlib.Core.List.{List}
-use Prim.Native.Nat.{ℕ, _+_, _*_, _≤_}
+use mathlib.Core.List.{List, [], _∷_}
+use mathlib.Core.Path.{_≡_}
+use Prim.Native.Nat.{ℕ, _+_, _*_, _<_, _≤_}
 use lib.Dec.{eqb, leb}
 use lib.ListN.{drop, length, take}
 use Rattle.std.specs.declared.option.Option.{Option}
@@ -22,6 +23,10 @@ countsOf bs = record {
   «guard_words» = u16In bs 10;
   switches = u16In bs 12;
 }
+
+-- the counts in their order
+abbrev pub listed : Counts → List ℕ
+listed c = c .states ∷ c .terminals ∷ c .nonterminals ∷ c .productions ∷ c .records ∷ c .«guard_words» ∷ c .switches ∷ []
 
 -- the pair at this byte: where a part begins, and how many bytes it has
 abbrev pub spanOf : List ℕ → ℕ → Span
@@ -77,10 +82,16 @@ pairsRefusal bs =
 abbrev pub headRefusal : List ℕ → Option (ℕ × ℕ)
 headRefusal bs = orElse (unless (leb 56 (length bs)) (1, length bs)) (orElse (countsRefusal bs) (pairsRefusal bs))
 
--- each part ends inside the bytes
-pub record Inside (h : Head) (bs : List ℕ) : Type 0 where
+-- there is a terminal, and each part ends inside the bytes and has the words that the counts give
+pub record LaidOut (h : Head) (bs : List ℕ) : Type 0 where
+  pub terminals : 0 < h .counts .terminals
   pub actions : h .actions .start + h .actions .size ≤ length bs
   pub gotos : h .gotos .start + h .gotos .size ≤ length bs
   pub productions : h .productions .start + h .productions .size ≤ length bs
   pub records : h .records .start + h .records .size ≤ length bs
   pub guards : h .guards .start + h .guards .size ≤ length bs
+  pub actions-size : h .actions .size ≡ h .counts .states * h .counts .terminals * 2
+  pub gotos-size : h .gotos .size ≡ h .counts .states * h .counts .nonterminals * 2
+  pub productions-size : h .productions .size ≡ h .counts .productions * 4
+  pub records-size : h .records .size ≡ h .counts .records * 4
+  pub guards-size : h .guards .size ≡ h .counts .«guard_words» * 2

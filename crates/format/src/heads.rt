@@ -3,7 +3,7 @@ ghost use mathlib.Core.Path.{_≡_};
 ghost use Prim.Native.Nat.{_+_, _≤_};
 ghost use lib.ListN.{length};
 ghost use Rattle.std.specs.Vec.{made};
-ghost use Rattle.format.specs.Heads.{Inside, countRefusal, countsOf, countsRefusal, headOf, headRefusal, pairRefusal, partOf, spanOf};
+ghost use Rattle.format.specs.Heads.{LaidOut, countRefusal, countsOf, countsRefusal, headOf, headRefusal, pairRefusal, partOf, spanOf};
 ghost use Rattle.format.specs.Refusals.{refusalIn};
 ghost use Rattle.format.specs.Words.{u16In};
 use crate::refusals::Refusal;
@@ -114,7 +114,7 @@ fn read_counts(bytes: &[u8]) -> Result<Counts, Refusal>
 pub fn read_head(bytes: &[u8]) -> Result<Head, Refusal>
     ensures refused { λ r. ⌜ refusalIn r ≡ headRefusal (now (bytes .entry)) ⌝ }
     ensures value { λ r. ⌜ made r (λ h. h ≡ headOf (now (bytes .entry))) ⌝ }
-    ensures inside { λ r. ⌜ made r (λ h. Inside h (now (bytes .entry))) ⌝ }
+    ensures laid { λ r. ⌜ made r (λ h. LaidOut h (now (bytes .entry))) ⌝ }
 {
     if bytes.len() < HEAD {
         return Err(Refusal::Short(bytes.len()));
