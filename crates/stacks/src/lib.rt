@@ -38,6 +38,16 @@ impl<T: Copy, const N: usize> Stack<T, N> {
         Some(self.items[self.len - 1])
     }
 
+    /// Takes off the item that was pushed last.
+    pub fn pop(&mut self) -> Option<T>
+        ensures value { λ r. ⌜ r ≡ nth (itemsOf (now (self .entry))) 0 ⌝ }
+        ensures after { λ _. ⌜ itemsOf (now (self .exit)) ≡ drop 1 (itemsOf (now (self .entry))) ⌝ }
+    {
+        let item = self.top();
+        self.cut(1);
+        item
+    }
+
     /// One item more, or false where the stack is full.
     pub fn push(&mut self, item: T) -> bool
         ensures room { λ r. ⌜ r ≡ ltb (length (itemsOf (now (self .entry)))) N ⌝ }

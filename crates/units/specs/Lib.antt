@@ -1,3 +1,4 @@
+pub mod Configurations
 pub mod Guards
 pub mod Records
 pub mod Scans

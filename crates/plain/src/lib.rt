@@ -1,0 +1,6 @@
+//! The plain reading of one configuration.
+mod automaton;
+
+pub use automaton::Outcome;
+pub use automaton::Reason;
+pub use automaton::act;
