@@ -124,7 +124,7 @@ module _ (bs : List ℕ) (s : Sound bs) where
   m = decoded bs
 
   actions-bound : (q t : ℕ) → ActionBound m t (actionAt m q t)
-  unfolding m
+  unfolding m decoded
   actions-bound q t =
       cond-both (ltb t (u16In bs 2)) _ _ (ActionBound m t)
       (λ lt. read-counted (λ i. valueOr (actionIn (actionsIn bs) (u16In bs 0) (u16In bs 2) (u16In bs 6) i) NoAction) (u16In bs 0 * u16In bs 2) (q * u16In bs 2 + t) (ActionBound m t) NoAction tt
@@ -132,7 +132,7 @@ module _ (bs : List ℕ) (s : Sound bs) where
       (λ _. tt)
 
   gotos-bound : (q n : ℕ) → found (gotoAt m q n) (λ to. to < m .states)
-  unfolding m
+  unfolding m decoded
   gotos-bound q n =
       cond-both (ltb n (u16In bs 4)) _ _ (λ o. found o (λ to. to < u16In bs 0))
       (λ lt. read-counted (λ i. gotoOf (u16In (gotosIn bs) (2 * i))) (u16In bs 0 * u16In bs 4) (q * u16In bs 4 + n) (λ o. found o (λ to. to < u16In bs 0)) None tt
@@ -140,7 +140,7 @@ module _ (bs : List ℕ) (s : Sound bs) where
       (λ _. tt)
 
   productions-bound : (p : ℕ) → found (productionAt m p) (ProductionBound m)
-  unfolding m
+  unfolding m decoded
   productions-bound p =
       found-counted (λ i. valueOr (productionIn (productionsIn bs) (u16In bs 4) i) (record { left = 0; length = 0 })) (u16In bs 6) p (ProductionBound m)
       (λ h. value-found (ProductionBound m) (productionIn (productionsIn bs) (u16In bs 4) p) _ (s .productions p h) (production-bound m _ _))
@@ -162,12 +162,15 @@ module _ (bs : List ℕ) (s : Sound bs) where
     decodes-at h = getD-counted _ (u16In bs 8) i None h
 
     pub record-read : (r : Record) → i < length decodes → getD decodes i None ≡ Some r → recordAt (decoded bs) i ≡ Some r
+    unfolding decoded
     record-read r h e = nth-getD (map allowed decodes) i r (rw (length-map decodes allowed) h) ∙ ap Some (getD-map allowed decodes i None r h ∙ ap allowed e)
 
     pub record-read-past : length decodes ≤ i → recordAt (decoded bs) i ≡ None
+    unfolding decoded
     record-read-past h = nth-past (map allowed decodes) i (rw (length-map decodes allowed) h)
 
     records-bound : found (recordAt (decoded bs) i) (RecordBound (decoded bs))
+    unfolding decoded
     records-bound = by (cases-lt i (length decodes))
       where
         by : (i < length decodes) ⊎ (length decodes ≤ i) → found (recordAt (decoded bs) i) (RecordBound (decoded bs))
@@ -178,11 +181,11 @@ module _ (bs : List ℕ) (s : Sound bs) where
             subst (λ o. found o (RecordBound (decoded bs))) (sym (record-read (r .0) h (r .1 .0))) (record-bound (decoded bs) (wordsIn (guardsIn bs) (u16In bs 10)) refl (r .0) token (r .1 .1))
 
   words-bound : (i : ℕ) → found (wordAt m i) (WordBound m)
-  unfolding m
+  unfolding m decoded
   words-bound i = read-mapped (wordOf (u16In bs 12)) (λ o. found o (WordBound m)) None tt (word-bound m) (wordsIn (guardsIn bs) (u16In bs 10)) i
 
   pub bounded : Bounded (decoded bs)
-  unfolding m words
+  unfolding m words decoded
   bounded = record {
     states = s .head .states;
     terminals = s .head .terminals;

@@ -26,12 +26,13 @@ use Rattle.tables.specs.Productions.{productionIn, productionOf}
 use Rattle.units.specs.Guards.{wordOf, wordsIn}
 use Rattle.units.specs.Records.{recordOf}
 use Rattle.delivery.specs.declared.deliveries.Delivery.{Delivery}
-use Rattle.delivery.specs.Bounds.{Bounded}
+use Rattle.delivery.specs.Bounds.{Bounded, Counted, Limited}
 use Rattle.delivery.specs.Decoded.{decoded}
 use Rattle.delivery.specs.Deliveries.{actionsIn, gotosIn, guardsIn, productionsIn, recordsIn}
 use Rattle.delivery.specs.Model.{actionAt, gotoAt, productionAt, recordAt, wordAt}
 use Rattle.delivery.specs.Views.{bytesOf, modelOf}
 use Rattle.delivery.proofs.Bounding.{bounded, decodes, decodes-at, length-decodes, record-read, record-read-past, scanned}
+use Rattle.delivery.proofs.Nested.{allowed}
 use Rattle.delivery.proofs.Sound.{Sound, sound}
 
 same-counts : (c d : Counts) → listed c ≡ listed d → c ≡ d
@@ -75,11 +76,13 @@ module _ (bs : List ℕ) (s : Sound bs) (c : Counts) (e : c ≡ countsOf bs) whe
       action-allowed = ap isSome at-index ∙ s .actions _ index-below
 
       pub action-value : (a : Action) → actionOf (c .states) (c .productions) t (u16In part (2 * (q * c .terminals + t))) ≡ Some a → a ≡ actionAt (decoded bs) q t
+      unfolding decoded
       action-value a h =
           let b : t < u16In bs 2 = rw e at column in
           sym (cond-true (ltb t (u16In bs 2)) _ _ (lt-ltb t (u16In bs 2) b) ∙ getD-counted _ (u16In bs 0 * u16In bs 2) (q * u16In bs 2 + t) NoAction index-below ∙ ap (λ o. valueOr o NoAction) (sym at-index ∙ h))
 
     pub action-past : (c .states ≤ q) ⊎ (c .terminals ≤ t) → NoAction ≡ actionAt (decoded bs) q t
+    unfolding decoded
     action-past (inr h) = sym (cond-false (ltb t (u16In bs 2)) _ _ (le-ltb t (u16In bs 2) (rw e at h)))
     action-past (inl h) = sym (cond-both (ltb t (u16In bs 2)) _ _ (λ a. a ≡ NoAction) (λ l. getD-counted-past _ (u16In bs 0 * u16In bs 2) (q * u16In bs 2 + t) NoAction (past-rows q (u16In bs 2) t (u16In bs 0) (rw e at h))) (λ _. refl))
 
@@ -95,11 +98,13 @@ module _ (bs : List ℕ) (s : Sound bs) (c : Counts) (e : c ≡ countsOf bs) whe
       goto-within = rw (f, e, s .head .gotos-long) (let h = goto-below in omega arith)
 
       pub goto-value : gotoOf (u16In part (2 * (q * c .nonterminals + n))) ≡ gotoAt (decoded bs) q n
+      unfolding decoded
       goto-value =
           let b : n < u16In bs 4 = rw e at column in
           rw (f, e) (sym (cond-true (ltb n (u16In bs 4)) _ _ (lt-ltb n (u16In bs 4) b) ∙ getD-counted _ (u16In bs 0 * u16In bs 4) (q * u16In bs 4 + n) None goto-below))
 
     pub goto-past : (c .states ≤ q) ⊎ (c .nonterminals ≤ n) → None ≡ gotoAt (decoded bs) q n
+    unfolding decoded
     goto-past (inr h) = sym (cond-false (ltb n (u16In bs 4)) _ _ (le-ltb n (u16In bs 4) (rw e at h)))
     goto-past (inl h) = sym (cond-both (ltb n (u16In bs 4)) _ _ (λ o. o ≡ None) (λ l. getD-counted-past _ (u16In bs 0 * u16In bs 4) (q * u16In bs 4 + n) None (past-rows q (u16In bs 4) n (u16In bs 0) (rw e at h))) (λ _. refl))
 
@@ -108,11 +113,13 @@ module _ (bs : List ℕ) (s : Sound bs) (c : Counts) (e : c ≡ countsOf bs) whe
     production-within h = rw (f, s .head .productions-long) (let l : p < u16In bs 6 = rw e at h in omega arith)
 
     pub production-value : p < c .productions → productionOf (c .nonterminals) (u16In part (4 * p)) (u16In part (4 * p + 2)) ≡ productionAt (decoded bs) p
+    unfolding decoded
     production-value h =
         let l : p < u16In bs 6 = rw e at h in
         rw (f, e) (some-value (productionIn (productionsIn bs) (u16In bs 4) p) _ (s .productions p l) ∙ sym (nth-counted _ (u16In bs 6) p l))
 
     pub production-past : c .productions ≤ p → None ≡ productionAt (decoded bs) p
+    unfolding decoded
     production-past h = sym (nth-counted-past _ (u16In bs 6) p (rw e at h))
 
   module _ (part : List ℕ) (f : part ≡ recordsIn bs) (i : ℕ) where
@@ -120,6 +127,7 @@ module _ (bs : List ℕ) (s : Sound bs) (c : Counts) (e : c ≡ countsOf bs) whe
     record-within h = rw (f, s .head .records-long) (let l : i < u16In bs 8 = rw e at h in omega arith)
 
     pub record-value : i < c .records → recordOf (c .terminals) (u16In part (4 * i)) (u16In part (4 * i + 2)) ≡ recordAt (decoded bs) i
+    unfolding decoded
     record-value h =
         let l : i < u16In bs 8 = rw e at h in
         let long : i < length (decodes bs s) = rw (length-decodes bs s) l in
@@ -127,6 +135,7 @@ module _ (bs : List ℕ) (s : Sound bs) (c : Counts) (e : c ≡ countsOf bs) whe
         rw (f, e) (sym (decodes-at bs s i l) ∙ r .1 .0 ∙ sym (record-read bs s i (r .0) long (r .1 .0)))
 
     pub record-past : c .records ≤ i → None ≡ recordAt (decoded bs) i
+    unfolding decoded
     record-past h = sym (record-read-past bs s i (rw (e, ← length-decodes bs s) at h))
 
   module _ (part : List ℕ) (f : part ≡ guardsIn bs) (i : ℕ) where
@@ -134,12 +143,14 @@ module _ (bs : List ℕ) (s : Sound bs) (c : Counts) (e : c ≡ countsOf bs) whe
     word-within h = rw (f, s .head .guards-long) (let l : i < u16In bs 10 = rw e at h in omega arith)
 
     pub word-value : i < c .«guard_words» → wordOf (c .switches) (u16In part (2 * i)) ≡ wordAt (decoded bs) i
+    unfolding decoded
     word-value h =
         let l : i < u16In bs 10 = rw e at h in
         let long : i < length (wordsIn (guardsIn bs) (u16In bs 10)) = rw (length-counted _ (u16In bs 10)) l in
         rw (f, e) (sym (getD-map (wordOf (u16In bs 12)) (wordsIn (guardsIn bs) (u16In bs 10)) i 0 None long ∙ ap (wordOf (u16In bs 12)) (getD-counted _ (u16In bs 10) i 0 l)))
 
     pub word-past : c .«guard_words» ≤ i → None ≡ wordAt (decoded bs) i
+    unfolding decoded
     word-past h =
         let l : u16In bs 10 ≤ i = rw e at h in
         sym (getD-past (map (wordOf (u16In bs 12)) (wordsIn (guardsIn bs) (u16In bs 10))) i None (rw (length-map (wordsIn (guardsIn bs) (u16In bs 10)) (wordOf (u16In bs 12)), length-counted _ (u16In bs 10)) l))
@@ -154,3 +165,22 @@ module _ (d : Delivery) where
 
   pub is-bounded : Bounded (modelOf d)
   is-bounded = bounded (bytesOf d) is-sound
+
+  pub is-counted : Counted (modelOf d) (d .parts .counts)
+  unfolding decoded
+  is-counted =
+      let bs = bytesOf d in
+      subst (Counted (modelOf d)) (sym counts-are) (record {
+        states = refl;
+        terminals = refl;
+        nonterminals = refl;
+        productions = sym (length-counted _ (u16In bs 6));
+        records = sym (length-map (decodes bs is-sound) allowed ∙ length-decodes bs is-sound);
+        guards = sym (length-map (wordsIn (guardsIn bs) (u16In bs 10)) (wordOf (u16In bs 12)) ∙ length-counted _ (u16In bs 10));
+        switches = refl;
+      })
+
+  pub is-limited : Limited (d .parts .counts)
+  is-limited =
+      let h = is-sound .head in
+      subst Limited (sym counts-are) (record { states = h .states; terminals = h .terminals; nonterminals = h .nonterminals; productions = h .productions; records = h .records; guards = h .guards; switches = h .switches })

@@ -8,6 +8,7 @@ use Rattle.std.specs.Options.{isSome}
 use Rattle.std.specs.Slices.{found}
 use Rattle.std.specs.declared.option.Option.{Option}
 use Rattle.std.specs.declared.option.Option.the-variants.{Some, None}
+use Rattle.format.specs.declared.heads.Counts.{Counts}
 use Rattle.tables.specs.declared.actions.Action.{Action}
 use Rattle.tables.specs.declared.actions.Action.the-variants.{None as NoAction, Shift, Reduce, Accept}
 use Rattle.tables.specs.declared.productions.Production.{Production}
@@ -18,6 +19,25 @@ use Rattle.units.specs.declared.guards.Word.the-variants.{Switch, Not, And, Or,
 use Rattle.units.specs.Guards.{heldBehind}
 use Rattle.units.specs.Scans.{begun, nested}
 use Rattle.delivery.specs.Model.{Model, actionAt, gotoAt, guardAt, productionAt, recordAt, wordAt}
+
+-- the counts of a model
+pub record Counted (m : Model) (c : Counts) : Type 0 where
+  pub states : c .states ≡ m .states
+  pub terminals : c .terminals ≡ m .terminals
+  pub nonterminals : c .nonterminals ≡ m .nonterminals
+  pub productions : c .productions ≡ length (m .productions)
+  pub records : c .records ≡ length (m .records)
+  pub guards : c .«guard_words» ≡ length (m .guards)
+  pub switches : c .switches ≡ m .switches
+
+pub record Limited (c : Counts) : Type 0 where
+  pub states : (1 ≤ c .states) × (c .states ≤ 256)
+  pub terminals : (1 ≤ c .terminals) × (c .terminals ≤ 64)
+  pub nonterminals : (1 ≤ c .nonterminals) × (c .nonterminals ≤ 64)
+  pub productions : c .productions ≤ 256
+  pub records : c .records ≤ 4096
+  pub guards : c .«guard_words» ≤ 4096
+  pub switches : c .switches ≤ 24
 
 -- a shift goes to a state that there is, and never at terminal 0, at which alone a parser accepts; a reduction is by a production that there is
 abbrev pub ActionBound : Model → ℕ → Action → Type 0

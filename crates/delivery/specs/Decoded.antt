@@ -15,7 +15,7 @@ use Rattle.units.specs.Records as records
 use Rattle.delivery.specs.Deliveries.{actionsIn, gotosIn, guardsIn, productionsIn, recordsIn}
 use Rattle.delivery.specs.Model.{Model}
 
-abbrev pub decoded : List ℕ → Model
+unfoldable pub decoded : List ℕ → Model
 decoded bs =
     let c = countsOf bs in
     record {

@@ -2,6 +2,8 @@
 use mathlib.Core.Bool.{Bool, true, false, not, _&&_, _||_}
 use mathlib.Core.List.{List, [], _∷_}
 use Prim.Native.Nat.{ℕ}
+use Rattle.std.specs.Finite.{nth}
+use Rattle.std.specs.Options.{valueOr}
 use Rattle.units.specs.declared.guards.Word.{Word}
 use Rattle.units.specs.declared.guards.Word.the-variants.{Switch, Not, And, Or, Whole, Nothing}
 use Rattle.units.specs.Configurations.{on}
@@ -26,12 +28,9 @@ worked k Or xs = connected _||_ xs
 worked k Whole xs = true ∷ xs
 worked k Nothing xs = false ∷ xs
 
-abbrev pub outcome : List Bool → Bool
-outcome [] = false
-outcome (x ∷ xs) = x
-
+-- a valid guard ends with one operand
 abbrev pub evaluated : ℕ → List Word → List Bool → Bool
-evaluated k [] xs = outcome xs
+evaluated k [] xs = valueOr (nth xs 0) false
 evaluated k (w ∷ ws) xs = evaluated k ws (worked k w xs)
 
 -- the guard that begins at word g holds in configuration k

@@ -4,3 +4,6 @@ pub mod Automaton
 pub mod Readings
 pub mod Examples
 pub mod Acts
+pub mod Frames
+pub mod Places
+pub mod Standing

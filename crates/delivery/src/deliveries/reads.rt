@@ -2,8 +2,7 @@
 ghost use mathlib.Core.Path.{_≡_};
 ghost use Prim.Native.Nat.{_<_};
 ghost use Rattle.std.specs.Slices.{found};
-ghost use Rattle.format.specs.Heads.{countsOf};
-ghost use Rattle.delivery.specs.Bounds.{ActionBound, Bounded, ProductionBound, RecordBound, WordBound};
+ghost use Rattle.delivery.specs.Bounds.{ActionBound, Bounded, Counted, Limited, ProductionBound, RecordBound, WordBound};
 ghost use Rattle.delivery.specs.Model.{actionAt, gotoAt, productionAt, recordAt, wordAt};
 ghost use Rattle.delivery.specs.Views.{bytesOf, modelOf};
 use super::Delivery;
@@ -30,7 +29,8 @@ impl<'a> Delivery<'a> {
 
     /// How many there are of each thing.
     pub fn counts(&self) -> Counts
-        ensures { λ r. ⌜ r ≡ countsOf (bytesOf (now (self .entry))) ⌝ }
+        ensures value { λ r. ⌜ Counted (modelOf (now (self .entry))) r ⌝ }
+        ensures bound { λ r. ⌜ Limited r ⌝ }
     {
         self.parts.counts
     }
