@@ -19,13 +19,14 @@ use Rattle.delivery.specs.Bounds.{ActionBound, Bounded}
 use Rattle.delivery.specs.Model.{Model, actionAt, finish, gotoAt, productionAt, recordAt}
 use Rattle.plain.specs.declared.frame.Frame.{Frame}
 use Rattle.plain.specs.declared.reader.Reader.{Reader}
-use Rattle.plain.specs.declared.reader.Status.the-variants.{Standing}
+use Rattle.plain.specs.declared.reader.Status.{Status}
+use Rattle.plain.specs.declared.reader.Status.the-variants.{Standing, Accepted, Failed}
 use Rattle.plain.specs.Automaton.{Outcome, shifts, reduces, accepts, fails, acted, gone, outcome, pushed, reduced, top}
 use Rattle.plain.specs.Branches.{around}
 use Rattle.plain.specs.Frames.{framesOf}
 use Rattle.plain.specs.Places.{At}
 use Rattle.plain.specs.Readings.{moved, next, reading, terminalOf}
-use Rattle.plain.specs.Standing.{Stands, shownAs}
+use Rattle.plain.specs.Standing.{Ends, Stands, endingAs, isStanding, shownAs}
 use Rattle.plain.proofs.Seeking.{at-start, record-within}
 
 -- at the start
@@ -70,3 +71,9 @@ module _ (m : Model) (stack : List ℕ) where
       by : (r : Option Record) → recordAt m p ≡ r → outcome m (terminalOf r) stack ≡ shifts st → p < finish m
       by None q h = absurd (both-ways (isShift (outcome m 0 stack)) (end-no-shift (actionAt m (top stack) 0) (b .action (top stack) 0)) (ap isShift h))
       by (Some r) q h = record-within (m .records) p r q
+
+-- the ending that is told is that of the reading
+pub ends-as : (m : Model) (k budget actions : ℕ) (a : Status) (p : ℕ) (stack : List ℕ) → reading m k actions ≡ shownAs a p stack → (isStanding a ≡ true → actions ≡ budget) → Ends m k budget actions (endingAs a p)
+ends-as m k budget actions Standing p stack e h = let all = h refl in (all, (p, (stack, ap (reading m k) (sym all) ∙ e)))
+ends-as m k budget actions Accepted p stack e h = e
+ends-as m k budget actions (Failed r) p stack e h = e

@@ -40,6 +40,14 @@ pub record Stands (m : Model) (j : ℕ) (r : Reader) : Type 0 where
   pub shows : reading m (r .configuration) j ≡ shown r
   pub at : At m (r .configuration) (r .cursor .place) (itemsOf (r .cursor .frames))
 
+abbrev pub endingAs : Status → ℕ → Ending
+endingAs Standing p = ending.Spent
+endingAs Accepted p = ending.Accepted
+endingAs (Failed r) p = ending.Failed p r
+
+abbrev pub endingOf : Reader → Ending
+endingOf r = endingAs (r .status) (r .cursor .place)
+
 -- a fault as its number and its place
 abbrev pub numbered : Fault → ℕ × ℕ
 numbered OutOfRange = (22, 0)

@@ -13,3 +13,4 @@ pub use reader::Fault;
 pub use reader::Reader;
 pub use reader::Report;
 pub use reader::Status;
+pub use reader::read;

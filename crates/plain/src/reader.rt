@@ -7,7 +7,7 @@ ghost use Rattle.std.specs.Vec.{made};
 ghost use Rattle.format.specs.Firsts.{unless};
 ghost use Rattle.delivery.specs.Views.{modelOf};
 ghost use Rattle.plain.specs.Readings.{terminalOf};
-ghost use Rattle.plain.specs.Standing.{Stands, Told, faultIn, isStanding, numbered};
+ghost use Rattle.plain.specs.Standing.{Stands, Told, endingOf, faultIn, isStanding, numbered};
 ghost use Rattle.delivery.specs.Model.{recordAt};
 use crate::automaton::Outcome;
 use crate::automaton::Reason;
@@ -130,4 +130,58 @@ impl Reader {
         }
         true
     }
+
+    /// Makes as many actions as the budget allows, until the reading is over, and answers how many.
+    pub fn run(&mut self, delivery: &Delivery<'_>, budget: u64) -> u64
+        ensures few { λ r. ⌜ r ≤ budget ⌝ }
+        ensures same { λ _. ⌜ now (self .exit) .configuration ≡ now (self .entry) .configuration ⌝ }
+        ensures over { λ r. ⌜ (isStanding (now (self .exit) .status) ≡ true → r ≡ budget) ⌝ }
+        ensures stands { λ r. ⌜ ((j : ℕ) → Stands (modelOf (now (delivery .entry))) j (now (self .entry)) → Stands (modelOf (now (delivery .entry))) (j + r) (now (self .exit))) ⌝ }
+    {
+        for made in 0..budget {
+            if !self.step(delivery) {
+                return made;
+            }
+        }
+        budget
+    }
+
+    /// Whether the reading goes on.
+    pub fn status(&self) -> Status
+        ensures { λ r. ⌜ r ≡ now (self .entry) .status ⌝ }
+    {
+        self.status
+    }
+
+    /// The place at which the reading stands, or at which it ended.
+    pub fn place(&self) -> usize
+        ensures { λ r. ⌜ r ≡ now (self .entry) .cursor .place ⌝ }
+    {
+        self.cursor.place
+    }
+}
+
+/// How far a reading came that has spent its budget or is over.
+fn ending_of(reader: &Reader) -> Ending
+    ensures { λ r. ⌜ r ≡ endingOf (now (reader .entry)) ⌝ }
+{
+    match reader.status {
+        Status::Standing => Ending::Spent,
+        Status::Accepted => Ending::Accepted,
+        Status::Failed(reason) => Ending::Failed(reader.cursor.place, reason),
+    }
+}
+
+/// Reads a configuration, with a budget of actions.
+pub fn read(delivery: &Delivery<'_>, configuration: u32, budget: u64) -> Result<Report, Fault>
+    ensures refused { λ r. ⌜ faultIn r ≡ unless (ltb configuration (2 ^ modelOf (now (delivery .entry)) .switches)) (22, 0) ⌝ }
+    ensures told { λ r. ⌜ made r (Told (modelOf (now (delivery .entry))) configuration budget) ⌝ }
+{
+    let mut reader = Reader::new(delivery, configuration)?;
+    let actions = reader.run(delivery, budget);
+    Ok(Report {
+        tokens: count_tokens(delivery, configuration),
+        actions,
+        ending: ending_of(&reader),
+    })
 }
