@@ -1,0 +1,3 @@
+pub mod Answered
+pub mod Decimals
+pub mod Texts
