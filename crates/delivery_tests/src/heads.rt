@@ -1,11 +1,11 @@
 //! The head: its length, its counts and its pairs.
-use crate::build::SMALL;
-use crate::build::Size;
-use crate::build::put_u32;
-use crate::build::refused;
-use crate::build::set;
-use crate::build::sized;
-use crate::build::taken;
+use samples::SMALL;
+use samples::Size;
+use samples::put_u32;
+use samples::refused;
+use samples::set;
+use samples::sized;
+use samples::taken;
 use std::test::*;
 
 #[test]

@@ -1,7 +1,5 @@
 //! Tests of what is taken and what is refused, at the edges.
 #[cfg(test)]
-mod build;
-#[cfg(test)]
 mod heads;
 #[cfg(test)]
 mod tables;

@@ -1,10 +1,10 @@
 //! The words of the tables.
-use crate::build::SMALL;
-use crate::build::Size;
-use crate::build::refused;
-use crate::build::set;
-use crate::build::sized;
-use crate::build::taken;
+use samples::SMALL;
+use samples::Size;
+use samples::refused;
+use samples::set;
+use samples::sized;
+use samples::taken;
 use std::test::*;
 
 /// A word that is written at a byte, and the refusal's number and place; number 0 where it is taken.

@@ -1,7 +1,7 @@
 //! The records, their nesting, their guards and their branches.
-use crate::build::refused;
-use crate::build::taken;
-use crate::build::unit;
+use samples::refused;
+use samples::taken;
+use samples::unit;
 use std::alloc::AllocError;
 use std::alloc::Global;
 use std::test::*;

@@ -1,4 +1,4 @@
-//! Deliveries for the tests, whether or not they are allowed.
+//! Deliveries for the tests, whether or not they are allowed, and what the check should say of them.
 use delivery::check as check_delivery;
 use std::alloc::AllocError;
 use std::alloc::Global;

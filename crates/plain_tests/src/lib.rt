@@ -1,0 +1,5 @@
+//! Tests of the plain reading.
+#[cfg(test)]
+mod branches;
+#[cfg(test)]
+mod endings;
