@@ -14,7 +14,9 @@ pub fn number_in(text: &[u8]) -> Option<u32>
         if *b < b'0' || *b > b'9' {
             return None;
         }
-        value = value.saturating_mul(10).saturating_add(u32::from(*b - b'0'));
+        value = value
+            .saturating_mul(10)
+            .saturating_add(u32::from(*b - b'0'));
     }
     Some(value)
 }

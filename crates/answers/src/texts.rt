@@ -19,12 +19,21 @@ pub fn text_of(heap: Global, answer: Answer) -> Result<String, AllocError>
             let tokens = report.tokens;
             let actions = report.actions;
             match report.ending {
-                Ending::Accepted => format!(heap, "configuration {configuration}\ntokens {tokens}\naccepted {actions}"),
+                Ending::Accepted => format!(
+                    heap,
+                    "configuration {configuration}\ntokens {tokens}\naccepted {actions}"
+                ),
                 Ending::Failed(place, reason) => {
                     let number = reason.number();
-                    format!(heap, "configuration {configuration}\ntokens {tokens}\nfailed {place} {number} {actions}")
+                    format!(
+                        heap,
+                        "configuration {configuration}\ntokens {tokens}\nfailed {place} {number} {actions}"
+                    )
                 }
-                Ending::Spent => format!(heap, "configuration {configuration}\ntokens {tokens}\nspent {actions}"),
+                Ending::Spent => format!(
+                    heap,
+                    "configuration {configuration}\ntokens {tokens}\nspent {actions}"
+                ),
             }
         }
     }

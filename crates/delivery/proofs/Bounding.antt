@@ -107,9 +107,10 @@ read-mapped f P d none some (x ∷ xs) (suc i) = read-mapped f P d none some xs 
 
 module _ (m : Model) (ws : List ℕ) (guards : m .guards ≡ map (wordOf (m .switches)) ws) where
   guard-bound : (g : ℕ) → guardValid (m .switches) 0 (drop g ws) ≡ true → (g < length (m .guards)) × Balanced 0 (guardAt m g)
-  guard-bound g e =
-      (rw (guards, length-map ws (wordOf (m .switches))) (valid-within (m .switches) ws g e),
-      subst (λ xs. Balanced 0 (leading (drop g xs))) (sym guards) (guard-balanced (m .switches) ws g e))
+  guard-bound g e = (
+    rw (guards, length-map ws (wordOf (m .switches))) (valid-within (m .switches) ws g e),
+    subst (λ xs. Balanced 0 (leading (drop g xs))) (sym guards) (guard-balanced (m .switches) ws g e),
+  )
 
   record-bound : (r : Record) → TokenBound (m .terminals) r → guardGood ws (m .switches) r ≡ true → RecordBound m r
   unfolding TokenBound
@@ -128,7 +129,7 @@ module _ (bs : List ℕ) (s : Sound bs) where
   actions-bound q t =
       cond-both (ltb t (u16In bs 2)) _ _ (ActionBound m t)
       (λ lt. read-counted (λ i. valueOr (actionIn (actionsIn bs) (u16In bs 0) (u16In bs 2) (u16In bs 6) i) NoAction) (u16In bs 0 * u16In bs 2) (q * u16In bs 2 + t) (ActionBound m t) NoAction tt
-        (λ h. rw (mod-mul-add q (u16In bs 2) t (ltb-true t (u16In bs 2) lt)) (action-bound m (u16In bs 0) (u16In bs 6) t (u16In (actionsIn bs) (2 * (q * u16In bs 2 + t))) refl (sym (length-counted _ (u16In bs 6))))))
+      (λ h. rw (mod-mul-add q (u16In bs 2) t (ltb-true t (u16In bs 2) lt)) (action-bound m (u16In bs 0) (u16In bs 6) t (u16In (actionsIn bs) (2 * (q * u16In bs 2 + t))) refl (sym (length-counted _ (u16In bs 6))))))
       (λ _. tt)
 
   gotos-bound : (q n : ℕ) → found (gotoAt m q n) (λ to. to < m .states)
@@ -136,7 +137,7 @@ module _ (bs : List ℕ) (s : Sound bs) where
   gotos-bound q n =
       cond-both (ltb n (u16In bs 4)) _ _ (λ o. found o (λ to. to < u16In bs 0))
       (λ lt. read-counted (λ i. gotoOf (u16In (gotosIn bs) (2 * i))) (u16In bs 0 * u16In bs 4) (q * u16In bs 4 + n) (λ o. found o (λ to. to < u16In bs 0)) None tt
-        (λ h. goto-bound (u16In bs 0) _ (leb-true _ _ (s .gotos _ h))))
+      (λ h. goto-bound (u16In bs 0) _ (leb-true _ _ (s .gotos _ h))))
       (λ _. tt)
 
   productions-bound : (p : ℕ) → found (productionAt m p) (ProductionBound m)

@@ -6,6 +6,7 @@ ghost use Rattle.std.specs.Options.{isSome};
 ghost use Rattle.format.specs.Heads.{countsOf, listed};
 ghost use Rattle.delivery.specs.Deliveries.{actionsIn, gotosIn, guardsIn, productionsIn, recordsIn, refusalOf};
 ghost use Rattle.delivery.specs.Passing.{Passed};
+
 mod reads;
 
 use crate::parts::Parts;

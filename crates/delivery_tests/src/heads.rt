@@ -93,29 +93,22 @@ fn the_largest_is_taken(rt: LibcRuntime) -> Result<(), Fail> {
     taken(sized(rt.alloc(), largest)?.as_slice())
 }
 
-/// A number of a pair that is changed, and the pair that is then refused.
-struct Changed {
-    at: usize,
-    low: u16,
-    pair: usize,
-}
-
-/// The parts begin at 56, 60, 62, 66 and 70, have 4, 2, 4, 4 and 2 bytes, and end at 72.
-const CHANGED: [Changed; 14] = [
-    Changed { at: 16, low: 55, pair: 16 },
-    Changed { at: 16, low: 69, pair: 16 },
-    Changed { at: 20, low: 3, pair: 16 },
-    Changed { at: 20, low: 5, pair: 16 },
-    Changed { at: 24, low: 59, pair: 24 },
-    Changed { at: 24, low: 71, pair: 24 },
-    Changed { at: 28, low: 4, pair: 24 },
-    Changed { at: 32, low: 61, pair: 32 },
-    Changed { at: 36, low: 0, pair: 32 },
-    Changed { at: 40, low: 65, pair: 40 },
-    Changed { at: 44, low: 8, pair: 40 },
-    Changed { at: 48, low: 69, pair: 48 },
-    Changed { at: 48, low: 71, pair: 48 },
-    Changed { at: 52, low: 4, pair: 48 },
+/// A byte of a pair, the word that is written there, and the pair that is then refused. The parts begin at 56, 60, 62, 66 and 70, have 4, 2, 4, 4 and 2 bytes, and end at 72.
+const CHANGED: [(usize, u16, usize); 14] = [
+    (16, 55, 16),
+    (16, 69, 16),
+    (20, 3, 16),
+    (20, 5, 16),
+    (24, 59, 24),
+    (24, 71, 24),
+    (28, 4, 24),
+    (32, 61, 32),
+    (36, 0, 32),
+    (40, 65, 40),
+    (44, 8, 40),
+    (48, 69, 48),
+    (48, 71, 48),
+    (52, 4, 48),
 ];
 
 fn one_of_each() -> Size {
@@ -129,10 +122,10 @@ fn one_of_each() -> Size {
 #[test]
 fn pairs_have_rules(rt: LibcRuntime) -> Result<(), Fail> {
     taken(sized(rt.alloc(), one_of_each())?.as_slice())?;
-    for changed in &CHANGED {
+    for (at, word, pair) in CHANGED {
         let mut bytes = sized(rt.alloc(), one_of_each())?;
-        set(&mut bytes, changed.at, changed.low)?;
-        refused(bytes.as_slice(), 3, changed.pair)?;
+        set(&mut bytes, at, word)?;
+        refused(bytes.as_slice(), 3, pair)?;
     }
     Ok(())
 }

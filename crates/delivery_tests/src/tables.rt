@@ -7,13 +7,8 @@ use samples::sized;
 use samples::taken;
 use std::test::*;
 
-/// A word that is written at a byte, and the refusal's number and place; number 0 where it is taken.
-struct Case {
-    at: usize,
-    word: u16,
-    number: u8,
-    place: usize,
-}
+/// A byte, the word that is written there, and the refusal's number and place; number 0 where it is taken.
+type Case = (usize, u16, u8, usize);
 
 /// Two states, three terminals, two nonterminals and two productions: actions from byte 56, gotos from 68, productions from 76.
 fn two() -> Size {
@@ -26,13 +21,13 @@ fn two() -> Size {
 }
 
 fn each(rt: &LibcRuntime, cases: &[Case]) -> Result<(), Fail> {
-    for case in cases {
+    for (at, word, number, place) in cases.iter().copied() {
         let mut bytes = sized(rt.alloc(), two())?;
-        set(&mut bytes, case.at, case.word)?;
-        if case.number == 0 {
+        set(&mut bytes, at, word)?;
+        if number == 0 {
             taken(bytes.as_slice())?;
         } else {
-            refused(bytes.as_slice(), case.number, case.place)?;
+            refused(bytes.as_slice(), number, place)?;
         }
     }
     Ok(())
@@ -40,28 +35,28 @@ fn each(rt: &LibcRuntime, cases: &[Case]) -> Result<(), Fail> {
 
 /// Index i stands at byte 56 + 2 * i; its terminal is i % 3.
 const ACTIONS: [Case; 22] = [
-    Case { at: 56, word: 0, number: 0, place: 0 },
-    Case { at: 56, word: 1, number: 4, place: 0 },
-    Case { at: 56, word: 2, number: 4, place: 0 },
-    Case { at: 56, word: 2000, number: 0, place: 0 },
-    Case { at: 56, word: 1000, number: 0, place: 0 },
-    Case { at: 56, word: 1001, number: 0, place: 0 },
-    Case { at: 56, word: 1002, number: 4, place: 0 },
-    Case { at: 56, word: 999, number: 4, place: 0 },
-    Case { at: 56, word: 1999, number: 4, place: 0 },
-    Case { at: 56, word: 2001, number: 4, place: 0 },
-    Case { at: 58, word: 1, number: 0, place: 0 },
-    Case { at: 58, word: 2, number: 0, place: 0 },
-    Case { at: 58, word: 3, number: 4, place: 1 },
-    Case { at: 58, word: 2000, number: 4, place: 1 },
-    Case { at: 58, word: 1001, number: 0, place: 0 },
-    Case { at: 60, word: 2000, number: 4, place: 2 },
-    Case { at: 62, word: 1, number: 4, place: 3 },
-    Case { at: 62, word: 2000, number: 0, place: 0 },
-    Case { at: 64, word: 2, number: 0, place: 0 },
-    Case { at: 66, word: 2, number: 0, place: 0 },
-    Case { at: 66, word: 3, number: 4, place: 5 },
-    Case { at: 66, word: 65535, number: 4, place: 5 },
+    (56, 0, 0, 0),
+    (56, 1, 4, 0),
+    (56, 2, 4, 0),
+    (56, 2000, 0, 0),
+    (56, 1000, 0, 0),
+    (56, 1001, 0, 0),
+    (56, 1002, 4, 0),
+    (56, 999, 4, 0),
+    (56, 1999, 4, 0),
+    (56, 2001, 4, 0),
+    (58, 1, 0, 0),
+    (58, 2, 0, 0),
+    (58, 3, 4, 1),
+    (58, 2000, 4, 1),
+    (58, 1001, 0, 0),
+    (60, 2000, 4, 2),
+    (62, 1, 4, 3),
+    (62, 2000, 0, 0),
+    (64, 2, 0, 0),
+    (66, 2, 0, 0),
+    (66, 3, 4, 5),
+    (66, 65535, 4, 5),
 ];
 
 #[test]
@@ -70,11 +65,11 @@ fn action_words(rt: LibcRuntime) -> Result<(), Fail> {
 }
 
 const GOTOS: [Case; 5] = [
-    Case { at: 68, word: 2, number: 0, place: 0 },
-    Case { at: 68, word: 3, number: 5, place: 0 },
-    Case { at: 74, word: 1, number: 0, place: 0 },
-    Case { at: 74, word: 2, number: 0, place: 0 },
-    Case { at: 74, word: 3, number: 5, place: 3 },
+    (68, 2, 0, 0),
+    (68, 3, 5, 0),
+    (74, 1, 0, 0),
+    (74, 2, 0, 0),
+    (74, 3, 5, 3),
 ];
 
 #[test]
@@ -83,14 +78,14 @@ fn goto_words(rt: LibcRuntime) -> Result<(), Fail> {
 }
 
 const PRODUCTIONS: [Case; 8] = [
-    Case { at: 76, word: 1, number: 0, place: 0 },
-    Case { at: 76, word: 2, number: 6, place: 0 },
-    Case { at: 78, word: 16, number: 0, place: 0 },
-    Case { at: 78, word: 17, number: 6, place: 0 },
-    Case { at: 80, word: 1, number: 0, place: 0 },
-    Case { at: 80, word: 2, number: 6, place: 1 },
-    Case { at: 82, word: 16, number: 0, place: 0 },
-    Case { at: 82, word: 17, number: 6, place: 1 },
+    (76, 1, 0, 0),
+    (76, 2, 6, 0),
+    (78, 16, 0, 0),
+    (78, 17, 6, 0),
+    (80, 1, 0, 0),
+    (80, 2, 6, 1),
+    (82, 16, 0, 0),
+    (82, 17, 6, 1),
 ];
 
 #[test]

@@ -7,9 +7,13 @@ use std::alloc::Global;
 use std::test::*;
 
 const X: (u16, u16) = (1, 1);
+
 const IF: (u16, u16) = (2, 0);
+
 const ELIF: (u16, u16) = (3, 0);
+
 const ELSE: (u16, u16) = (4, 0);
+
 const END: (u16, u16) = (5, 0);
 
 /// A guard that holds everywhere.
@@ -20,7 +24,11 @@ fn fine(rt: &LibcRuntime, records: &[(u16, u16)]) -> Result<(), Fail> {
 }
 
 fn bad(rt: &LibcRuntime, records: &[(u16, u16)], number: u8, place: usize) -> Result<(), Fail> {
-    refused(unit(rt.alloc(), records, &WHOLE, 0)?.as_slice(), number, place)
+    refused(
+        unit(rt.alloc(), records, &WHOLE, 0)?.as_slice(),
+        number,
+        place,
+    )
 }
 
 #[test]
@@ -151,7 +159,16 @@ fn held_operands(rt: LibcRuntime) -> Result<(), Fail> {
 #[test]
 fn guard_places(rt: LibcRuntime) -> Result<(), Fail> {
     let words = [1, 100, 0, 2, 0];
-    for (first, second, place) in [(0, 3, 9), (3, 0, 9), (1, 0, 0), (4, 0, 0), (5, 0, 0), (0, 1, 2), (0, 4, 2), (0, 65535, 2)] {
+    for (first, second, place) in [
+        (0, 3, 9),
+        (3, 0, 9),
+        (1, 0, 0),
+        (4, 0, 0),
+        (5, 0, 0),
+        (0, 1, 2),
+        (0, 4, 2),
+        (0, 65535, 2),
+    ] {
         let bytes = unit(rt.alloc(), &[(2, first), X, (3, second), END], &words, 2)?;
         if place == 9 {
             taken(bytes.as_slice())?;
@@ -166,17 +183,37 @@ fn guard_places(rt: LibcRuntime) -> Result<(), Fail> {
 #[test]
 fn the_first_is_told(rt: LibcRuntime) -> Result<(), Fail> {
     let none = [0];
-    refused(unit(rt.alloc(), &[IF, END, END], &none, 0)?.as_slice(), 9, 0)?;
+    refused(
+        unit(rt.alloc(), &[IF, END, END], &none, 0)?.as_slice(),
+        9,
+        0,
+    )?;
     refused(unit(rt.alloc(), &[END, IF], &none, 0)?.as_slice(), 8, 0)?;
-    refused(unit(rt.alloc(), &[ELIF, (9, 9)], &none, 0)?.as_slice(), 8, 0)?;
+    refused(
+        unit(rt.alloc(), &[ELIF, (9, 9)], &none, 0)?.as_slice(),
+        8,
+        0,
+    )?;
     refused(unit(rt.alloc(), &[IF, (9, 9)], &none, 0)?.as_slice(), 9, 0)?;
     let mut records = flat(rt.alloc(), 1, 254)?;
     records.push((2, 1))?;
-    refused(unit(rt.alloc(), records.as_slice(), &WHOLE, 0)?.as_slice(), 9, 257)?;
+    refused(
+        unit(rt.alloc(), records.as_slice(), &WHOLE, 0)?.as_slice(),
+        9,
+        257,
+    )?;
     let _ = records.pop();
     records.push((4, 1))?;
-    refused(unit(rt.alloc(), records.as_slice(), &WHOLE, 0)?.as_slice(), 7, 257)?;
+    refused(
+        unit(rt.alloc(), records.as_slice(), &WHOLE, 0)?.as_slice(),
+        7,
+        257,
+    )?;
     let _ = records.pop();
     records.push(IF)?;
-    refused(unit(rt.alloc(), records.as_slice(), &WHOLE, 0)?.as_slice(), 10, 257)
+    refused(
+        unit(rt.alloc(), records.as_slice(), &WHOLE, 0)?.as_slice(),
+        10,
+        257,
+    )
 }

@@ -121,10 +121,25 @@ pub fn read_head(bytes: &[u8]) -> Result<Head, Refusal>
     }
     let counts = read_counts(bytes)?;
     let actions = read_span(bytes, 16, HEAD, counts.states * counts.terminals * 2)?;
-    let gotos = read_span(bytes, 24, actions.start + actions.size, counts.states * counts.nonterminals * 2)?;
+    let gotos = read_span(
+        bytes,
+        24,
+        actions.start + actions.size,
+        counts.states * counts.nonterminals * 2,
+    )?;
     let productions = read_span(bytes, 32, gotos.start + gotos.size, counts.productions * 4)?;
-    let records = read_span(bytes, 40, productions.start + productions.size, counts.records * 4)?;
-    let guards = read_span(bytes, 48, records.start + records.size, counts.guard_words * 2)?;
+    let records = read_span(
+        bytes,
+        40,
+        productions.start + productions.size,
+        counts.records * 4,
+    )?;
+    let guards = read_span(
+        bytes,
+        48,
+        records.start + records.size,
+        counts.guard_words * 2,
+    )?;
     Ok(Head {
         counts,
         actions,

@@ -91,8 +91,15 @@ empty-fails = refl
 -- a parser with one state, at the end of an empty unit
 abbrev pub alone : Action → Option ℕ → ℕ → Model
 alone action goto length = record {
-  states = 1; terminals = 1; nonterminals = 1; switches = 0;
-  actions = action ∷ []; gotos = goto ∷ []; productions = record { left = 0; length = length } ∷ []; records = []; guards = [];
+  states = 1;
+  terminals = 1;
+  nonterminals = 1;
+  switches = 0;
+  actions = action ∷ [];
+  gotos = goto ∷ [];
+  productions = record { left = 0; length = length } ∷ [];
+  records = [];
+  guards = [];
 }
 
 leaves-none : reading (alone (Reduce 0) (Some 0) 1) 0 1 ≡ failed 0 NoState

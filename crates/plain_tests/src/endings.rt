@@ -25,9 +25,24 @@ fn shifts(rt: &LibcRuntime, tokens: u16) -> Result<Vec<u8>, Fail> {
 /// A stack holds 128 states, the first among them.
 #[test]
 fn the_stack_is_full(rt: LibcRuntime) -> Result<(), Fail> {
-    answers(&rt, shifts(&rt, 0)?.as_slice(), 0, "configuration 0\ntokens 0\naccepted 1")?;
-    answers(&rt, shifts(&rt, 127)?.as_slice(), 0, "configuration 0\ntokens 127\naccepted 128")?;
-    answers(&rt, shifts(&rt, 128)?.as_slice(), 0, "configuration 0\ntokens 128\nfailed 127 4 128")
+    answers(
+        &rt,
+        shifts(&rt, 0)?.as_slice(),
+        0,
+        "configuration 0\ntokens 0\naccepted 1",
+    )?;
+    answers(
+        &rt,
+        shifts(&rt, 127)?.as_slice(),
+        0,
+        "configuration 0\ntokens 127\naccepted 128",
+    )?;
+    answers(
+        &rt,
+        shifts(&rt, 128)?.as_slice(),
+        0,
+        "configuration 0\ntokens 128\nfailed 127 4 128",
+    )
 }
 
 /// A parser with one state that reduces at the end of an empty unit: byte 56 is the end's action, 60 the goto, 64 the production's length.
@@ -43,15 +58,40 @@ fn reduces(rt: &LibcRuntime, goto: u16, length: u16) -> Result<Vec<u8>, Fail> {
 
 #[test]
 fn reductions_fail(rt: LibcRuntime) -> Result<(), Fail> {
-    answers(&rt, reduces(&rt, 1, 1)?.as_slice(), 0, "configuration 0\ntokens 0\nfailed 0 2 1")?;
-    answers(&rt, reduces(&rt, 1, 16)?.as_slice(), 0, "configuration 0\ntokens 0\nfailed 0 2 1")?;
-    answers(&rt, reduces(&rt, 0, 0)?.as_slice(), 0, "configuration 0\ntokens 0\nfailed 0 3 1")?;
-    answers(&rt, reduces(&rt, 1, 0)?.as_slice(), 0, "configuration 0\ntokens 0\nfailed 0 4 128")
+    answers(
+        &rt,
+        reduces(&rt, 1, 1)?.as_slice(),
+        0,
+        "configuration 0\ntokens 0\nfailed 0 2 1",
+    )?;
+    answers(
+        &rt,
+        reduces(&rt, 1, 16)?.as_slice(),
+        0,
+        "configuration 0\ntokens 0\nfailed 0 2 1",
+    )?;
+    answers(
+        &rt,
+        reduces(&rt, 0, 0)?.as_slice(),
+        0,
+        "configuration 0\ntokens 0\nfailed 0 3 1",
+    )?;
+    answers(
+        &rt,
+        reduces(&rt, 1, 0)?.as_slice(),
+        0,
+        "configuration 0\ntokens 0\nfailed 0 4 128",
+    )
 }
 
 #[test]
 fn no_action_fails(rt: LibcRuntime) -> Result<(), Fail> {
-    answers(&rt, sized(rt.alloc(), SMALL)?.as_slice(), 0, "configuration 0\ntokens 0\nfailed 0 1 1")
+    answers(
+        &rt,
+        sized(rt.alloc(), SMALL)?.as_slice(),
+        0,
+        "configuration 0\ntokens 0\nfailed 0 1 1",
+    )
 }
 
 /// Two states: the first reduces nothing and goes to the second, which reduces one state and goes to itself, for ever.
@@ -65,7 +105,12 @@ fn a_budget_is_spent(rt: LibcRuntime) -> Result<(), Fail> {
     set(&mut bytes, 60, 1001)?;
     set(&mut bytes, 64, 2)?;
     set(&mut bytes, 74, 1)?;
-    answers(&rt, bytes.as_slice(), 0, "configuration 0\ntokens 0\nspent 1000000")
+    answers(
+        &rt,
+        bytes.as_slice(),
+        0,
+        "configuration 0\ntokens 0\nspent 1000000",
+    )
 }
 
 /// With n switches, 2^n - 1 is the last configuration.
@@ -75,7 +120,12 @@ fn configurations_have_a_range(rt: LibcRuntime) -> Result<(), Fail> {
     answers(&rt, sized(rt.alloc(), size)?.as_slice(), 1, "refused 22 0")?;
     size.switches = 24;
     let bytes = sized(rt.alloc(), size)?;
-    answers(&rt, bytes.as_slice(), 16777215, "configuration 16777215\ntokens 0\nfailed 0 1 1")?;
+    answers(
+        &rt,
+        bytes.as_slice(),
+        16777215,
+        "configuration 16777215\ntokens 0\nfailed 0 1 1",
+    )?;
     answers(&rt, bytes.as_slice(), 16777216, "refused 22 0")?;
     answers(&rt, bytes.as_slice(), u32::MAX, "refused 22 0")
 }

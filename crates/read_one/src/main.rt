@@ -23,7 +23,10 @@ fn asked(rt: &LibcRuntime) -> io::Result<Option<u32>> {
 
 fn main(rt: LibcRuntime) -> io::Result<()> {
     let Some(configuration) = asked(&rt)? else {
-        eprintln!(rt, "usage: read_one K < DELIVERY\nK is the number of a configuration, in decimal.")?;
+        eprintln!(
+            rt,
+            "usage: read_one K < DELIVERY\nK is the number of a configuration, in decimal."
+        )?;
         return Err(io::Error::from(io::ErrorKind::InvalidInput));
     };
     let heap = rt.alloc();

@@ -60,8 +60,12 @@ fn put_head(bytes: &mut Vec<u8>, size: Size) -> Result<(), AllocError> {
     let states = u32::from(size.states);
     let mut at: u32 = 56;
     for len in [
-        states.wrapping_mul(u32::from(size.terminals)).wrapping_mul(2),
-        states.wrapping_mul(u32::from(size.nonterminals)).wrapping_mul(2),
+        states
+            .wrapping_mul(u32::from(size.terminals))
+            .wrapping_mul(2),
+        states
+            .wrapping_mul(u32::from(size.nonterminals))
+            .wrapping_mul(2),
         u32::from(size.productions).wrapping_mul(4),
         u32::from(size.records).wrapping_mul(4),
         u32::from(size.guard_words).wrapping_mul(2),
@@ -100,7 +104,12 @@ pub fn sized(heap: Global, size: Size) -> Result<Vec<u8>, AllocError> {
 }
 
 /// A unit of these records and guards, with terminals 0 and 1 and so many switches.
-pub fn unit(heap: Global, records: &[(u16, u16)], guards: &[u16], switches: u16) -> Result<Vec<u8>, AllocError> {
+pub fn unit(
+    heap: Global,
+    records: &[(u16, u16)],
+    guards: &[u16],
+    switches: u16,
+) -> Result<Vec<u8>, AllocError> {
     let mut size = SMALL;
     size.records = (records.len() & 0xffff) as u16;
     size.guard_words = (guards.len() & 0xffff) as u16;

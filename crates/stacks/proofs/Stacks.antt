@@ -28,7 +28,7 @@ module _ {X : Type 0} (xs : List X) (n : ℕ) where
       by (inr l) =
           let less : n - k ≤ n = omega arith in
           let split : stacked n xs ≡ reverse (drop (n - k) (take n xs)) ++ stacked (n - k) xs =
-              ap reverse (sym (take-append-drop (n - k) (take n xs))) ∙ reverse-append (take (n - k) (take n xs)) _ ∙ ap (λ ys. reverse (drop (n - k) (take n xs)) ++ reverse ys) (take-take (n - k) n xs less) in
+          ap reverse (sym (take-append-drop (n - k) (take n xs))) ∙ reverse-append (take (n - k) (take n xs)) _ ∙ ap (λ ys. reverse (drop (n - k) (take n xs)) ++ reverse ys) (take-take (n - k) n xs less) in
           let long : length (reverse (drop (n - k) (take n xs))) ≡ k = length-reverse _ ∙ length-drop (n - k) (take n xs) ∙ ap (λ z. z - (n - k)) (length-take-le n xs h) ∙ omega arith in
           sym (ap (drop k) split ∙ drop-at _ _ k long)
       by (inl l) =

@@ -33,7 +33,12 @@ pub fn action_of(word: u16, terminal: usize, states: usize, productions: usize) 
 }
 
 /// Whether each word is allowed, state by state, at each state terminal by terminal.
-pub fn check_actions(part: &[u8], states: usize, terminals: usize, productions: usize) -> Result<(), Refusal>
+pub fn check_actions(
+    part: &[u8],
+    states: usize,
+    terminals: usize,
+    productions: usize,
+) -> Result<(), Refusal>
     requires some { ⌜ 0 < terminals ⌝ }
     requires long { ⌜ length (now part) ≡ states * terminals * 2 ⌝ }
     ensures { λ r. ⌜ refusalIn r ≡ actionsRefusal (now (part .entry)) states terminals productions ⌝ }

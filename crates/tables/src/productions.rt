@@ -25,7 +25,11 @@ pub fn production_of(left: u16, length: u16, nonterminals: usize) -> Option<Prod
 }
 
 /// Whether each production is allowed.
-pub fn check_productions(part: &[u8], nonterminals: usize, productions: usize) -> Result<(), Refusal>
+pub fn check_productions(
+    part: &[u8],
+    nonterminals: usize,
+    productions: usize,
+) -> Result<(), Refusal>
     requires { ⌜ length (now part) ≡ productions * 4 ⌝ }
     ensures { λ r. ⌜ refusalIn r ≡ productionsRefusal (now (part .entry)) nonterminals productions ⌝ }
 {

@@ -52,10 +52,11 @@ pub record State : Type 0 where
 abbrev pub passed : List ℕ → ℕ → ℕ → State → Option Record → Result State (ℕ × ℕ)
 passed words switches i s None = Err (7, i)
 passed words switches i s (Some r) = elim (nested r (s .nesting)) [
-    None ↦ Err (8, i)
+  | None ↦ Err (8, i)
   | Some os ↦ cond (guardGood words switches r)
       (cond (leb (s .branches + begun r) 256) (Ok (record { nesting = os; branches = s .branches + begun r })) (Err (10, i)))
-      (Err (9, i)) ]
+      (Err (9, i))
+]
 
 abbrev pub andOn : {X Y : Type 0} → Result X Y → (X → Option Y) → Option Y
 andOn (Ok x) f = f x

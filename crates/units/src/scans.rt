@@ -60,7 +60,12 @@ fn guard_good(record: Record, guards: &[u8], counts: Counts) -> bool
     ensures { λ r. ⌜ r ≡ guardGood (wordsIn (now (guards .entry)) (counts .«guard_words»)) (counts .switches) «record» ⌝ }
 {
     match record {
-        Record::If(guard) | Record::Elif(guard) => guard_valid(guards, guard as usize, counts.guard_words, counts.switches),
+        Record::If(guard) | Record::Elif(guard) => guard_valid(
+            guards,
+            guard as usize,
+            counts.guard_words,
+            counts.switches,
+        ),
         Record::Token(_) | Record::Else | Record::End => true,
     }
 }
@@ -77,7 +82,13 @@ fn begun_by(record: Record) -> usize
 
 impl Scan {
     /// Passes the record at this index, or refuses it.
-    fn pass(&mut self, i: usize, record: Option<Record>, guards: &[u8], counts: Counts) -> Result<(), Refusal>
+    fn pass(
+        &mut self,
+        i: usize,
+        record: Option<Record>,
+        guards: &[u8],
+        counts: Counts,
+    ) -> Result<(), Refusal>
         requires long { ⌜ length (now guards) ≡ counts .«guard_words» * 2 ⌝ }
         requires few { ⌜ now self .branches ≤ 256 ⌝ }
         ensures few { λ r. ⌜ made r (λ _. now (self .exit) .branches ≤ 256) ⌝ }
@@ -111,7 +122,11 @@ pub fn check_records(records: &[u8], guards: &[u8], counts: Counts) -> Result<()
         branches: 0,
     };
     for i in 0..counts.records {
-        let record = record_of(u16_at(records, 4 * i), u16_at(records, 4 * i + 2), counts.terminals);
+        let record = record_of(
+            u16_at(records, 4 * i),
+            u16_at(records, 4 * i + 2),
+            counts.terminals,
+        );
         scan.pass(i, record, guards, counts)?;
     }
     if scan.nesting.len() != 0 {

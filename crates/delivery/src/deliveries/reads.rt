@@ -46,7 +46,10 @@ impl<'a> Delivery<'a> {
         if state >= counts.states || terminal >= counts.terminals {
             return Action::None;
         }
-        let word = u16_at(self.parts.actions, 2 * (state * counts.terminals + terminal));
+        let word = u16_at(
+            self.parts.actions,
+            2 * (state * counts.terminals + terminal),
+        );
         action_of(word, terminal, counts.states, counts.productions).unwrap()
     }
 
@@ -61,7 +64,10 @@ impl<'a> Delivery<'a> {
         if state >= counts.states || nonterminal >= counts.nonterminals {
             return None;
         }
-        goto_of(u16_at(self.parts.gotos, 2 * (state * counts.nonterminals + nonterminal)))
+        goto_of(u16_at(
+            self.parts.gotos,
+            2 * (state * counts.nonterminals + nonterminal),
+        ))
     }
 
     /// The production of this number, if there is one.

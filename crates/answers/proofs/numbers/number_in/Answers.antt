@@ -15,8 +15,9 @@ returns-then-b-lt48 c =
     let v = c .loop-b .value in
     let next = c .loop-b .inv .1 ∙ at-drop-more (spelledBehind v) text (c .loop-b .b-index) 0 (c .loop-b-test .taken) in
     elim (c .then-b-lt48 .came) [
-      then-b-lt48·by·then-b-lt48 w ↦ sym (next ∙ spelled-low v _ (drop (c .loop-b .b-index + 1) text) (w .if-b-lt48 .taken))
-    | then-b-lt48·by·else-b-lt48·then-b-gt57 w ↦ sym (next ∙ spelled-high v _ (drop (c .loop-b .b-index + 1) text) (w .if-b-gt57 .taken)) ]
+      | then-b-lt48·by·then-b-lt48 w ↦ sym (next ∙ spelled-low v _ (drop (c .loop-b .b-index + 1) text) (w .if-b-lt48 .taken))
+      | then-b-lt48·by·else-b-lt48·then-b-gt57 w ↦ sym (next ∙ spelled-high v _ (drop (c .loop-b .b-index + 1) text) (w .if-b-gt57 .taken))
+    ]
 
 pub loop-b-again : need.loop-b-again
 loop-b-again c =
@@ -25,9 +26,10 @@ loop-b-again c =
     let b = getD text (c .loop-b .b-index) 0 in
     let low : 48 ≤ b = search needs in
     let high : b ≤ 57 = search needs in
-    let held : min (c .saturating-add-value .result) 4294967295 ≡ min (v * 10 + (b - 48)) 4294967295 = omega arith in
-    (c .saturating-add-value .ok,
-    c .loop-b .inv .1 ∙ at-drop-more (spelledBehind v) text (c .loop-b .b-index) 0 (c .loop-b-test .taken) ∙ spelled-more v b (drop (c .loop-b .b-index + 1) text) low high (c .saturating-add-value .result) held)
+    let held : min (c .saturating-add-value .result) 4294967295 ≡ min (v * 10 + (b - 48)) 4294967295 = omega arith in (
+      c .saturating-add-value .ok,
+      c .loop-b .inv .1 ∙ at-drop-more (spelledBehind v) text (c .loop-b .b-index) 0 (c .loop-b-test .taken) ∙ spelled-more v b (drop (c .loop-b .b-index + 1) text) low high (c .saturating-add-value .result) held,
+    )
 
 pub returns : need.returns
 returns c =

@@ -34,9 +34,10 @@ loop-record-again c =
     let one : c .pass .last .self .place ≡ s .place + 1 = c .pass .ensures .place in
     let rest : ones (drop (c .pass .last .self .place) (presence m k [] (m .records))) ≡ ones (drop (s .place + 1) (presence m k [] (m .records))) = ap (λ q. ones (drop q (presence m k [] (m .records)))) one in
     let counted : c .if-is-present .count ≡ c .loop-record .count + here =
-        elim (c .if-is-present .came) [
-          then-is-present w ↦ (let t : here ≡ 1 = ap (λ b. cond {A = ℕ} b 1 0) (sym (c .is-present .ensures) ∙ w .if-is-present .taken) in omega (arith, w .count-is))
-        | else-is-present w ↦ (let t : here ≡ 0 = ap (λ b. cond {A = ℕ} b 1 0) (sym (c .is-present .ensures) ∙ w .if-is-present .left) in omega (arith, w .count-is)) ] in
+    elim (c .if-is-present .came) [
+      | then-is-present w ↦ (let t : here ≡ 1 = ap (λ b. cond {A = ℕ} b 1 0) (sym (c .is-present .ensures) ∙ w .if-is-present .taken) in omega (arith, w .count-is))
+      | else-is-present w ↦ (let t : here ≡ 0 = ap (λ b. cond {A = ℕ} b 1 0) (sym (c .is-present .ensures) ∙ w .if-is-present .left) in omega (arith, w .count-is))
+    ] in
     let at-most : here ≤ 1 = elim (isToken (c .in-Some .record) && hasInnermost (itemsOf (s .frames))) as (λ b. cond b 1 0 ≤ 1) [ true ↦ omega arith | false ↦ omega arith ] in
     let so-far = inv .1 in
     let all = inv .2 in

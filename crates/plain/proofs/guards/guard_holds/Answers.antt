@@ -35,9 +35,10 @@ loop-word-again c =
     let at = sym (c .guard-word .ensures .value) ∙ c .in-Some .is in
     let words = modelOf (c .args .delivery .now) .guards in
     let xs = itemsOf (c .loop-word .operands) in
-    let ws = leading (drop (c .loop-word .i + 1) words) in
-    (subst (λ ys. Balanced (length ys) ws) (sym (c .work .ensures)) (word-balanced (c .args .configuration) words (c .loop-word .i) (c .in-Some .word) at xs (c .loop-word .inv .0)),
-    c .loop-word .inv .1 ∙ word-evaluated (c .args .configuration) words (c .loop-word .i) (c .in-Some .word) at xs (c .loop-word .inv .0) ∙ ap (evaluated (c .args .configuration) ws) (sym (c .work .ensures)))
+    let ws = leading (drop (c .loop-word .i + 1) words) in (
+      subst (λ ys. Balanced (length ys) ws) (sym (c .work .ensures)) (word-balanced (c .args .configuration) words (c .loop-word .i) (c .in-Some .word) at xs (c .loop-word .inv .0)),
+      c .loop-word .inv .1 ∙ word-evaluated (c .args .configuration) words (c .loop-word .i) (c .in-Some .word) at xs (c .loop-word .inv .0) ∙ ap (evaluated (c .args .configuration) ws) (sym (c .work .ensures)),
+    )
 
 pub returns : need.returns
 returns c =

@@ -21,9 +21,10 @@ returns-in-Break-pass c =
 
 pub loop-i-again : need.loop-i-again
 loop-i-again c =
-    let is : c .record-of-record .result ≡ recordOf (c .args .counts .terminals) (u16In (c .args .records .now) (4 * c .loop-i .i)) (u16In (c .args .records .now) (4 * c .loop-i .i + 2)) = cc in
-    (c .in-Continue-pass .ensures tt .few,
-    c .loop-i .inv .1 ∙ scanned-goes (c .args .records .now) _ _ _ _ _ (stateOf (c .loop-i .scan)) _ (c .loop-i-test .taken) is _ (c .in-Continue-pass .ensures tt .exact))
+    let is : c .record-of-record .result ≡ recordOf (c .args .counts .terminals) (u16In (c .args .records .now) (4 * c .loop-i .i)) (u16In (c .args .records .now) (4 * c .loop-i .i + 2)) = cc in (
+      c .in-Continue-pass .ensures tt .few,
+      c .loop-i .inv .1 ∙ scanned-goes (c .args .records .now) _ _ _ _ _ (stateOf (c .loop-i .scan)) _ (c .loop-i-test .taken) is _ (c .in-Continue-pass .ensures tt .exact),
+    )
 
 pub returns-then-len-ne0 : need.returns-then-len-ne0
 returns-then-len-ne0 c =

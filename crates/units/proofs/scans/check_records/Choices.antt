@@ -12,4 +12,4 @@ abbrev pub Inv-loop-i : given.InvT-loop-i
 Inv-loop-i l =
     (l .scan .branches ≤ 256)
     × (recordsRefusal (l .records) (l .guards) (l .counts .terminals) (l .counts .switches) (l .counts .records) (l .counts .«guard_words»)
-       ≡ scanned (wordsIn (l .guards) (l .counts .«guard_words»)) (l .counts .switches) (l .i) (stateOf (l .scan)) (drop (l .i) (recordsIn (l .records) (l .counts .terminals) (l .counts .records))))
+    ≡ scanned (wordsIn (l .guards) (l .counts .«guard_words»)) (l .counts .switches) (l .i) (stateOf (l .scan)) (drop (l .i) (recordsIn (l .records) (l .counts .terminals) (l .counts .records))))

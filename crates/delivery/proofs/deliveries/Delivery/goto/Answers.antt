@@ -22,5 +22,5 @@ pub returns : need.returns
 returns c =
     let d = c .args .self .now in
     let value : c .goto-of .result ≡ gotoAt (modelOf d) (c .args .state) (c .args .nonterminal) =
-        c .goto-of .ensures ∙ ap gotoOf (c .u16-at .ensures) ∙ goto-value _ (is-sound d) _ (counts-are d) _ (d .«gotos_are») _ _ (c .if-state-counts .left) (c .if-nonterminal-counts .left) in
+    c .goto-of .ensures ∙ ap gotoOf (c .u16-at .ensures) ∙ goto-value _ (is-sound d) _ (counts-are d) _ (d .«gotos_are») _ _ (c .if-state-counts .left) (c .if-nonterminal-counts .left) in
     record { value = value; bound = subst (λ o. found o (λ to. to < modelOf d .states)) (sym value) (is-bounded d .goto (c .args .state) (c .args .nonterminal)) }

@@ -19,5 +19,5 @@ pub returns : need.returns
 returns c =
     let d = c .args .self .now in
     let value : c .word-of .result ≡ wordAt (modelOf d) (c .args .index) =
-        c .word-of .ensures ∙ ap (wordOf (d .parts .counts .switches)) (c .u16-at .ensures) ∙ word-value _ (is-sound d) _ (counts-are d) _ (d .«guards_are») _ (c .if-index-counts .left) in
+    c .word-of .ensures ∙ ap (wordOf (d .parts .counts .switches)) (c .u16-at .ensures) ∙ word-value _ (is-sound d) _ (counts-are d) _ (d .«guards_are») _ (c .if-index-counts .left) in
     record { value = value; bound = subst (λ o. found o (WordBound (modelOf d))) (sym value) (is-bounded d .word (c .args .index)) }

@@ -29,7 +29,7 @@ pub returns : need.returns
 returns c =
     let d = c .args .self .now in
     let value : c .production-of .result ≡ productionAt (modelOf d) (c .args .number) =
-        c .production-of .ensures
-        ∙ (λ j. productionOf (d .parts .counts .nonterminals) (c .u16-at-left .ensures j) (c .u16-at-length .ensures j))
-        ∙ production-value _ (is-sound d) _ (counts-are d) _ (d .«productions_are») _ (c .if-number-counts .left) in
+    c .production-of .ensures
+    ∙ (λ j. productionOf (d .parts .counts .nonterminals) (c .u16-at-left .ensures j) (c .u16-at-length .ensures j))
+    ∙ production-value _ (is-sound d) _ (counts-are d) _ (d .«productions_are») _ (c .if-number-counts .left) in
     record { value = value; bound = subst (λ o. found o (ProductionBound (modelOf d))) (sym value) (is-bounded d .production (c .args .number)) }

@@ -29,7 +29,7 @@ pub returns : need.returns
 returns c =
     let d = c .args .self .now in
     let value : c .record-of .result ≡ recordAt (modelOf d) (c .args .place) =
-        c .record-of .ensures
-        ∙ (λ j. recordOf (d .parts .counts .terminals) (c .u16-at-kind .ensures j) (c .u16-at-value .ensures j))
-        ∙ record-value _ (is-sound d) _ (counts-are d) _ (d .«records_are») _ (c .if-place-counts .left) in
+    c .record-of .ensures
+    ∙ (λ j. recordOf (d .parts .counts .terminals) (c .u16-at-kind .ensures j) (c .u16-at-value .ensures j))
+    ∙ record-value _ (is-sound d) _ (counts-are d) _ (d .«records_are») _ (c .if-place-counts .left) in
     record { value = value; bound = subst (λ o. found o (RecordBound (modelOf d))) (sym value) (is-bounded d .«record» (c .args .place)) }

@@ -17,9 +17,10 @@ returns c = λ below at.
     let p = c .args .self .now .place in
     let last = c .seek .last .self in
     elim (c .match-record .came) [
-      in-Some w ↦
-        (let there : At m k (c .match-record .self .place) (itemsOf (c .match-record .self .frames)) = subst (λ (s : Cursor). At m k (s .place) (itemsOf (s .frames))) (sym (w .self-is)) (w .pass .ensures .at at) in
-         let one : c .match-record .self .place ≡ p + 1 = ap (λ (s : Cursor). s .place) (w .self-is) ∙ w .pass .ensures .place in
-         subst (λ q. Found m k q (last .place) (itemsOf (last .frames))) one (c .seek .ensures there))
-    | in-rest w ↦
-        (let past : finish m ≤ p = none-past (m .records) p (sym (c .record .ensures .value) ∙ w .in-rest .is) in absurd (omega arith)) ]
+      | in-Some w ↦
+          (let there : At m k (c .match-record .self .place) (itemsOf (c .match-record .self .frames)) = subst (λ (s : Cursor). At m k (s .place) (itemsOf (s .frames))) (sym (w .self-is)) (w .pass .ensures .at at) in
+          let one : c .match-record .self .place ≡ p + 1 = ap (λ (s : Cursor). s .place) (w .self-is) ∙ w .pass .ensures .place in
+          subst (λ q. Found m k q (last .place) (itemsOf (last .frames))) one (c .seek .ensures there))
+      | in-rest w ↦
+          (let past : finish m ≤ p = none-past (m .records) p (sym (c .record .ensures .value) ∙ w .in-rest .is) in absurd (omega arith))
+    ]

@@ -28,11 +28,12 @@ pub loop-record-again : need.loop-record-again
 loop-record-again c = λ at.
     let m = modelOf (c .args .delivery .now) in
     let s = c .loop-record .self in
-    let now = c .loop-record .inv at in
-    (c .pass .ensures .at (now .0),
-    now .1
-    ∙ next-past m (c .args .configuration) (s .place) (c .in-Some .record) (sym (c .record .ensures .value) ∙ c .in-Some .is) (itemsOf (s .frames)) (now .0) (sym (c .is-present .ensures) ∙ c .if-is-present .left)
-    ∙ ap (nextPlace m (c .args .configuration)) (sym (c .pass .ensures .place)))
+    let now = c .loop-record .inv at in (
+      c .pass .ensures .at (now .0),
+      now .1
+          ∙ next-past m (c .args .configuration) (s .place) (c .in-Some .record) (sym (c .record .ensures .value) ∙ c .in-Some .is) (itemsOf (s .frames)) (now .0) (sym (c .is-present .ensures) ∙ c .if-is-present .left)
+          ∙ ap (nextPlace m (c .args .configuration)) (sym (c .pass .ensures .place)),
+    )
 
 pub returns : need.returns
 returns c = λ at.

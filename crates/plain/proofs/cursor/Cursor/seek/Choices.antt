@@ -12,7 +12,7 @@ abbrev pub Inv-loop-record : given.InvT-loop-record
 Inv-loop-record l =
     At (modelOf (l .delivery)) (l .configuration) (l .entry .self .place) (itemsOf (l .entry .self .frames))
     → At (modelOf (l .delivery)) (l .configuration) (l .self .place) (itemsOf (l .self .frames))
-      × (nextPlace (modelOf (l .delivery)) (l .configuration) (l .entry .self .place) ≡ nextPlace (modelOf (l .delivery)) (l .configuration) (l .self .place))
+    × (nextPlace (modelOf (l .delivery)) (l .configuration) (l .entry .self .place) ≡ nextPlace (modelOf (l .delivery)) (l .configuration) (l .self .place))
 
 abbrev pub μ-loop-record : given.MeasureT-loop-record
 μ-loop-record l = finish (modelOf (l .delivery)) - l .self .place

@@ -25,11 +25,12 @@ returns-then-not-step c =
 pub loop-made-again : need.loop-made-again
 loop-made-again c =
     let m = modelOf (c .args .delivery .now) in
-    let one : c .step .result ≡ true = search needs in
-    (c .step .ensures .same ∙ c .loop-made .inv .0,
-    λ j s.
-      let more : j + c .loop-made .made + cond (c .step .result) 1 0 ≡ j + (c .loop-made .made + 1) = rw one (omega arith) in
-      subst (λ n. Stands m n (c .step .last .self)) more (c .step .ensures .stands (j + c .loop-made .made) (c .loop-made .inv .1 j s)))
+    let one : c .step .result ≡ true = search needs in (
+      c .step .ensures .same ∙ c .loop-made .inv .0,
+      λ j s.
+          let more : j + c .loop-made .made + cond (c .step .result) 1 0 ≡ j + (c .loop-made .made + 1) = rw one (omega arith) in
+          subst (λ n. Stands m n (c .step .last .self)) more (c .step .ensures .stands (j + c .loop-made .made) (c .loop-made .inv .1 j s)),
+    )
 
 pub returns : need.returns
 returns c =

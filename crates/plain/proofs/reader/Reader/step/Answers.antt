@@ -24,11 +24,11 @@ returns-in-Shift c =
       same = refl;
       kept = λ e. absurd (true≢false e);
       stands = λ j s.
-        (let found = c .advance .ensures below (s .at) in
-         record {
-           shows = one-more m j r (c .terminal-at-terminal .result) _ (c .in-Standing .is) s (c .terminal-at-terminal .ensures) (sym (c .in-Shift .ensures tt)) ∙ ap (λ q. standing q st) (sym (found .place)) ∙ ap (λ a. shownAs a (c .advance .last .self .place) st) (sym (c .in-Standing .is));
-           at = found .at;
-         });
+          (let found = c .advance .ensures below (s .at) in
+          record {
+            shows = one-more m j r (c .terminal-at-terminal .result) _ (c .in-Standing .is) s (c .terminal-at-terminal .ensures) (sym (c .in-Shift .ensures tt)) ∙ ap (λ q. standing q st) (sym (found .place)) ∙ ap (λ a. shownAs a (c .advance .last .self .place) st) (sym (c .in-Standing .is));
+            at = found .at;
+          });
     }
 
 pub returns-in-Reduce : need.returns-in-Reduce
