@@ -18,7 +18,6 @@ use Rattle.format.specs.declared.heads.Counts.{Counts}
 use Rattle.format.specs.Heads.{countsOf, listed}
 use Rattle.format.specs.Words.{u16In}
 use Rattle.format.proofs.Counted.{getD-counted, getD-counted-past, length-counted, nth-counted, nth-counted-past}
-use Rattle.tables.specs.declared.actions.Action.{Action}
 use Rattle.tables.specs.declared.actions.Action.the-variants.{None as NoAction}
 use Rattle.tables.specs.Actions.{actionIn, actionOf}
 use Rattle.tables.specs.Gotos.{gotoOf}
@@ -29,6 +28,7 @@ use Rattle.delivery.specs.declared.deliveries.Delivery.{Delivery}
 use Rattle.delivery.specs.Bounds.{Bounded, Counted, Limited}
 use Rattle.delivery.specs.Decoded.{decoded}
 use Rattle.delivery.specs.Deliveries.{actionsIn, gotosIn, guardsIn, productionsIn, recordsIn}
+use Rattle.delivery.specs.Indices.{ActionIndex, GotoIndex, ProductionIndex, RecordIndex, WordIndex}
 use Rattle.delivery.specs.Model.{actionAt, gotoAt, productionAt, recordAt, wordAt}
 use Rattle.delivery.specs.Views.{bytesOf, modelOf}
 use Rattle.delivery.proofs.Bounding.{bounded, decodes, decodes-at, length-decodes, record-read, record-read-past, scanned}
@@ -50,19 +50,19 @@ some-value : {X : Type 0} (o : Option X) (d : X) → isSome o ≡ true → o ≡
 some-value None d e = absurd (both-ways false refl e)
 some-value (Some x) d e = refl
 
--- a row past the last lies past the table
-past-rows : (q w t h : ℕ) → h ≤ q → h * w ≤ q * w + t
-past-rows q w t h l = let k : h * w ≤ q * w = mul-le h w q w l (omega arith) in omega arith
+-- the place of a row and a column of a table lies inside it, and that of a row past the last past it
+cell-below : (q w t h : ℕ) → q < h → t < w → q * w + t < h * w
+cell-below q w t h row column = omega (arith, mul-add-lt q w t h row column)
+
+cell-past : (q w t h : ℕ) → h ≤ q → h * w ≤ q * w + t
+cell-past q w t h row = let k : h * w ≤ q * w = mul-le h w q w row (omega arith) in omega arith
 
 -- the counts and a part, as the code holds them
 module _ (bs : List ℕ) (s : Sound bs) (c : Counts) (e : c ≡ countsOf bs) where
   module _ (part : List ℕ) (f : part ≡ actionsIn bs) (q t : ℕ) where
     module _ (row : q < c .states) (column : t < c .terminals) where
       index-below : q * u16In bs 2 + t < u16In bs 0 * u16In bs 2
-      index-below =
-          let a : q < u16In bs 0 = rw e at row in
-          let b : t < u16In bs 2 = rw e at column in
-          omega (arith, mul-add-lt q (u16In bs 2) t (u16In bs 0) a b)
+      index-below = cell-below q (u16In bs 2) t (u16In bs 0) (rw e at row) (rw e at column)
 
       pub action-within : 2 * (q * c .terminals + t) + 2 ≤ length part
       action-within = rw (f, e, s .head .actions-long) (let h = index-below in omega arith)
@@ -72,27 +72,23 @@ module _ (bs : List ℕ) (s : Sound bs) (c : Counts) (e : c ≡ countsOf bs) whe
           let b : t < u16In bs 2 = rw e at column in
           rw (f, e, mod-mul-add q (u16In bs 2) t b)
 
-      pub action-allowed : isSome (actionOf (c .states) (c .productions) t (u16In part (2 * (q * c .terminals + t)))) ≡ true
-      action-allowed = ap isSome at-index ∙ s .actions _ index-below
-
-      pub action-value : (a : Action) → actionOf (c .states) (c .productions) t (u16In part (2 * (q * c .terminals + t))) ≡ Some a → a ≡ actionAt (decoded bs) q t
+      pub action-value : actionOf (c .states) (c .productions) t (u16In part (2 * (q * c .terminals + t))) ≡ Some (actionAt (decoded bs) q t)
       unfolding decoded
-      action-value a h =
+      action-value =
           let b : t < u16In bs 2 = rw e at column in
-          sym (cond-true (ltb t (u16In bs 2)) _ _ (lt-ltb t (u16In bs 2) b) ∙ getD-counted _ (u16In bs 0 * u16In bs 2) (q * u16In bs 2 + t) NoAction index-below ∙ ap (λ o. valueOr o NoAction) (sym at-index ∙ h))
+          at-index
+          ∙ some-value (actionIn (actionsIn bs) (u16In bs 0) (u16In bs 2) (u16In bs 6) (q * u16In bs 2 + t)) NoAction (s .actions _ index-below)
+          ∙ ap Some (sym (cond-true (ltb t (u16In bs 2)) _ _ (lt-ltb t (u16In bs 2) b) ∙ getD-counted _ (u16In bs 0 * u16In bs 2) (q * u16In bs 2 + t) NoAction index-below))
 
-    pub action-past : (c .states ≤ q) ⊎ (c .terminals ≤ t) → NoAction ≡ actionAt (decoded bs) q t
+    pub action-past : (c .states ≤ q) ⊎ (c .terminals ≤ t) → actionAt (decoded bs) q t ≡ NoAction
     unfolding decoded
-    action-past (inr h) = sym (cond-false (ltb t (u16In bs 2)) _ _ (le-ltb t (u16In bs 2) (rw e at h)))
-    action-past (inl h) = sym (cond-both (ltb t (u16In bs 2)) _ _ (λ a. a ≡ NoAction) (λ l. getD-counted-past _ (u16In bs 0 * u16In bs 2) (q * u16In bs 2 + t) NoAction (past-rows q (u16In bs 2) t (u16In bs 0) (rw e at h))) (λ _. refl))
+    action-past (inr h) = cond-false (ltb t (u16In bs 2)) _ _ (le-ltb t (u16In bs 2) (rw e at h))
+    action-past (inl h) = cond-both (ltb t (u16In bs 2)) _ _ (λ a. a ≡ NoAction) (λ l. getD-counted-past _ (u16In bs 0 * u16In bs 2) (q * u16In bs 2 + t) NoAction (cell-past q (u16In bs 2) t (u16In bs 0) (rw e at h))) (λ _. refl)
 
   module _ (part : List ℕ) (f : part ≡ gotosIn bs) (q n : ℕ) where
     module _ (row : q < c .states) (column : n < c .nonterminals) where
       goto-below : q * u16In bs 4 + n < u16In bs 0 * u16In bs 4
-      goto-below =
-          let a : q < u16In bs 0 = rw e at row in
-          let b : n < u16In bs 4 = rw e at column in
-          omega (arith, mul-add-lt q (u16In bs 4) n (u16In bs 0) a b)
+      goto-below = cell-below q (u16In bs 4) n (u16In bs 0) (rw e at row) (rw e at column)
 
       pub goto-within : 2 * (q * c .nonterminals + n) + 2 ≤ length part
       goto-within = rw (f, e, s .head .gotos-long) (let h = goto-below in omega arith)
@@ -103,10 +99,10 @@ module _ (bs : List ℕ) (s : Sound bs) (c : Counts) (e : c ≡ countsOf bs) whe
           let b : n < u16In bs 4 = rw e at column in
           rw (f, e) (sym (cond-true (ltb n (u16In bs 4)) _ _ (lt-ltb n (u16In bs 4) b) ∙ getD-counted _ (u16In bs 0 * u16In bs 4) (q * u16In bs 4 + n) None goto-below))
 
-    pub goto-past : (c .states ≤ q) ⊎ (c .nonterminals ≤ n) → None ≡ gotoAt (decoded bs) q n
+    pub goto-past : (c .states ≤ q) ⊎ (c .nonterminals ≤ n) → gotoAt (decoded bs) q n ≡ None
     unfolding decoded
-    goto-past (inr h) = sym (cond-false (ltb n (u16In bs 4)) _ _ (le-ltb n (u16In bs 4) (rw e at h)))
-    goto-past (inl h) = sym (cond-both (ltb n (u16In bs 4)) _ _ (λ o. o ≡ None) (λ l. getD-counted-past _ (u16In bs 0 * u16In bs 4) (q * u16In bs 4 + n) None (past-rows q (u16In bs 4) n (u16In bs 0) (rw e at h))) (λ _. refl))
+    goto-past (inr h) = cond-false (ltb n (u16In bs 4)) _ _ (le-ltb n (u16In bs 4) (rw e at h))
+    goto-past (inl h) = cond-both (ltb n (u16In bs 4)) _ _ (λ o. o ≡ None) (λ l. getD-counted-past _ (u16In bs 0 * u16In bs 4) (q * u16In bs 4 + n) None (cell-past q (u16In bs 4) n (u16In bs 0) (rw e at h))) (λ _. refl)
 
   module _ (part : List ℕ) (f : part ≡ productionsIn bs) (p : ℕ) where
     pub production-within : p < c .productions → 4 * p + 4 ≤ length part
@@ -118,9 +114,9 @@ module _ (bs : List ℕ) (s : Sound bs) (c : Counts) (e : c ≡ countsOf bs) whe
         let l : p < u16In bs 6 = rw e at h in
         rw (f, e) (some-value (productionIn (productionsIn bs) (u16In bs 4) p) _ (s .productions p l) ∙ sym (nth-counted _ (u16In bs 6) p l))
 
-    pub production-past : c .productions ≤ p → None ≡ productionAt (decoded bs) p
+    pub production-past : c .productions ≤ p → productionAt (decoded bs) p ≡ None
     unfolding decoded
-    production-past h = sym (nth-counted-past _ (u16In bs 6) p (rw e at h))
+    production-past h = nth-counted-past _ (u16In bs 6) p (rw e at h)
 
   module _ (part : List ℕ) (f : part ≡ recordsIn bs) (i : ℕ) where
     pub record-within : i < c .records → 4 * i + 4 ≤ length part
@@ -134,9 +130,9 @@ module _ (bs : List ℕ) (s : Sound bs) (c : Counts) (e : c ≡ countsOf bs) whe
         let r = scanned bs s .each i long in
         rw (f, e) (sym (decodes-at bs s i l) ∙ r .1 .0 ∙ sym (record-read bs s i (r .0) long (r .1 .0)))
 
-    pub record-past : c .records ≤ i → None ≡ recordAt (decoded bs) i
+    pub record-past : c .records ≤ i → recordAt (decoded bs) i ≡ None
     unfolding decoded
-    record-past h = sym (record-read-past bs s i (rw (e, ← length-decodes bs s) at h))
+    record-past h = record-read-past bs s i (rw (e, ← length-decodes bs s) at h)
 
   module _ (part : List ℕ) (f : part ≡ guardsIn bs) (i : ℕ) where
     pub word-within : i < c .«guard_words» → 2 * i + 2 ≤ length part
@@ -149,11 +145,11 @@ module _ (bs : List ℕ) (s : Sound bs) (c : Counts) (e : c ≡ countsOf bs) whe
         let long : i < length (wordsIn (guardsIn bs) (u16In bs 10)) = rw (length-counted _ (u16In bs 10)) l in
         rw (f, e) (sym (getD-map (wordOf (u16In bs 12)) (wordsIn (guardsIn bs) (u16In bs 10)) i 0 None long ∙ ap (wordOf (u16In bs 12)) (getD-counted _ (u16In bs 10) i 0 l)))
 
-    pub word-past : c .«guard_words» ≤ i → None ≡ wordAt (decoded bs) i
+    pub word-past : c .«guard_words» ≤ i → wordAt (decoded bs) i ≡ None
     unfolding decoded
     word-past h =
         let l : u16In bs 10 ≤ i = rw e at h in
-        sym (getD-past (map (wordOf (u16In bs 12)) (wordsIn (guardsIn bs) (u16In bs 10))) i None (rw (length-map (wordsIn (guardsIn bs) (u16In bs 10)) (wordOf (u16In bs 12)), length-counted _ (u16In bs 10)) l))
+        getD-past (map (wordOf (u16In bs 12)) (wordsIn (guardsIn bs) (u16In bs 10))) i None (rw (length-map (wordsIn (guardsIn bs) (u16In bs 10)) (wordOf (u16In bs 12)), length-counted _ (u16In bs 10)) l)
 
 -- of a delivery
 module _ (d : Delivery) where
@@ -184,3 +180,34 @@ module _ (d : Delivery) where
   is-limited =
       let h = is-sound .head in
       subst Limited (sym counts-are) (record { states = h .states; terminals = h .terminals; nonterminals = h .nonterminals; productions = h .productions; records = h .records; guards = h .guards; switches = h .switches })
+
+  -- what stands where
+  pub action-there : (q t : ℕ) → q < d .parts .counts .states → t < d .parts .counts .terminals → ActionIndex d q t (Some (2 * (q * d .parts .counts .terminals + t)))
+  action-there q t row column =
+      (action-within (bytesOf d) is-sound _ counts-are _ (d .«actions_are») q t row column,
+      action-value (bytesOf d) is-sound _ counts-are _ (d .«actions_are») q t row column,
+      is-bounded .action q t)
+
+  pub goto-there : (q n : ℕ) → q < d .parts .counts .states → n < d .parts .counts .nonterminals → GotoIndex d q n (Some (2 * (q * d .parts .counts .nonterminals + n)))
+  goto-there q n row column =
+      (goto-within (bytesOf d) is-sound _ counts-are _ (d .«gotos_are») q n row column,
+      goto-value (bytesOf d) is-sound _ counts-are _ (d .«gotos_are») q n row column,
+      is-bounded .goto q n)
+
+  pub production-there : (p : ℕ) → p < d .parts .counts .productions → ProductionIndex d p (Some (4 * p))
+  production-there p h =
+      (production-within (bytesOf d) is-sound _ counts-are _ (d .«productions_are») p h,
+      production-value (bytesOf d) is-sound _ counts-are _ (d .«productions_are») p h,
+      is-bounded .production p)
+
+  pub record-there : (i : ℕ) → i < d .parts .counts .records → RecordIndex d i (Some (4 * i))
+  record-there i h =
+      (record-within (bytesOf d) is-sound _ counts-are _ (d .«records_are») i h,
+      record-value (bytesOf d) is-sound _ counts-are _ (d .«records_are») i h,
+      is-bounded .«record» i)
+
+  pub word-there : (i : ℕ) → i < d .parts .counts .«guard_words» → WordIndex d i (Some (2 * i))
+  word-there i h =
+      (word-within (bytesOf d) is-sound _ counts-are _ (d .«guards_are») i h,
+      word-value (bytesOf d) is-sound _ counts-are _ (d .«guards_are») i h,
+      is-bounded .word i)

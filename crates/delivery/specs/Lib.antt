@@ -4,3 +4,4 @@ pub mod Model
 pub mod Bounds
 pub mod Decoded
 pub mod Views
+pub mod Indices

@@ -10,6 +10,9 @@ use stacks::Stack;
 use tables::Action;
 use tables::Production;
 
+/// How many states a stack holds at most.
+pub const DEPTH: usize = 128;
+
 /// Why a reading fails.
 #[derive(Clone, Copy)]
 pub enum Reason {
@@ -19,7 +22,7 @@ pub enum Reason {
     NoState,
     /// The table has no goto.
     NoGoto,
-    /// The stack holds 128 states already.
+    /// The stack holds as many states as it may.
     NoRoom,
 }
 
@@ -48,7 +51,7 @@ pub enum Outcome {
 }
 
 /// Drops the production's right side from the stack, and pushes the state to which what is left goes.
-fn reduce(delivery: &Delivery<'_>, production: Production, stack: &mut Stack<u16, 128>) -> Outcome
+fn reduce(delivery: &Delivery<'_>, production: Production, stack: &mut Stack<u16, DEPTH>) -> Outcome
     ensures { λ r. ⌜ shownBy r (itemsOf (now (stack .exit))) ≡ reduced (modelOf (now (delivery .entry))) (itemsOf (now (stack .entry))) (Some production) ⌝ }
 {
     let length = production.length as usize;
@@ -67,7 +70,7 @@ fn reduce(delivery: &Delivery<'_>, production: Production, stack: &mut Stack<u16
 }
 
 /// Makes one action at this terminal.
-pub fn act(delivery: &Delivery<'_>, terminal: u16, stack: &mut Stack<u16, 128>) -> Outcome
+pub fn act(delivery: &Delivery<'_>, terminal: u16, stack: &mut Stack<u16, DEPTH>) -> Outcome
     ensures { λ r. ⌜ shownBy r (itemsOf (now (stack .exit))) ≡ outcome (modelOf (now (delivery .entry))) terminal (itemsOf (now (stack .entry))) ⌝ }
 {
     match delivery.action(stack.top().unwrap_or(0), terminal) {

@@ -9,6 +9,7 @@ ghost use Rattle.delivery.specs.Views.{modelOf};
 ghost use Rattle.plain.specs.Readings.{terminalOf};
 ghost use Rattle.plain.specs.Standing.{Stands, Told, endingOf, faultIn, isStanding, numbered};
 ghost use Rattle.delivery.specs.Model.{recordAt};
+use crate::automaton::DEPTH;
 use crate::automaton::Outcome;
 use crate::automaton::Reason;
 use crate::automaton::act;
@@ -58,7 +59,7 @@ pub enum Status {
 pub struct Reader {
     configuration: u32,
     cursor: Cursor,
-    stack: Stack<u16, 128>,
+    stack: Stack<u16, DEPTH>,
     status: Status,
 }
 
