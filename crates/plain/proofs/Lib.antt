@@ -4,3 +4,4 @@ pub mod Depth
 pub mod Seeking
 pub mod Ranges
 pub mod Stepping
+pub mod Parsing

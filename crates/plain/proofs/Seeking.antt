@@ -21,12 +21,12 @@ use Rattle.plain.proofs.Depth.{few-around}
 use Rattle.plain.proofs.Framing.{framed-behind, innermost-has, length-frames}
 
 -- the record at a place
-drop-record : (rs : List Record) (p : ℕ) (r : Record) → nth rs p ≡ Some r → drop p rs ≡ r ∷ drop (p + 1) rs
+pub drop-record : (rs : List Record) (p : ℕ) (r : Record) → nth rs p ≡ Some r → drop p rs ≡ r ∷ drop (p + 1) rs
 drop-record [] p r e = absurd (let no : _≡_ {A = ℕ} 0 1 = cc in omega arith)
 drop-record (x ∷ rs) zero r e = let s : x ≡ r = cc in ap (λ y. y ∷ rs) s
 drop-record (x ∷ rs) (suc p) r e = drop-record rs p r e ∙ rw (add-one, add-one)
 
-drop-none : (rs : List Record) (p : ℕ) → nth rs p ≡ None → drop p rs ≡ []
+pub drop-none : (rs : List Record) (p : ℕ) → nth rs p ≡ None → drop p rs ≡ []
 drop-none [] zero e = refl
 drop-none [] (suc p) e = refl
 drop-none (x ∷ rs) zero e = absurd (let no : _≡_ {A = ℕ} 0 1 = cc in omega arith)
@@ -56,10 +56,10 @@ module _ (m : Model) (k : ℕ) where
   next-at-end p e = from-here p ∙ ap (λ rs. firstFrom p (presence m k (around m p) rs)) (drop-none (m .records) p e)
 
   module _ (p : ℕ) (r : Record) (e : recordAt m p ≡ Some r) where
-    around-more : around m (p + 1) ≡ behind r (around m p)
+    pub around-more : around m (p + 1) ≡ behind r (around m p)
     around-more = behind-more [] (m .records) p r e
 
-    next-by : nextPlace m k p ≡ cond (isToken r && has m k (around m p)) p (nextPlace m k (p + 1))
+    pub next-by : nextPlace m k p ≡ cond (isToken r && has m k (around m p)) p (nextPlace m k (p + 1))
     next-by =
         from-here p
         ∙ ap (λ rs. firstFrom p (presence m k (around m p) rs)) (drop-record (m .records) p r e)

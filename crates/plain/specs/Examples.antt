@@ -15,6 +15,8 @@ use Rattle.delivery.specs.Model.{Model}
 use Rattle.plain.specs.declared.automaton.Reason.the-variants.{NoAction, NoState, NoGoto, NoRoom}
 use Rattle.plain.specs.Branches.{nextPlace, presence, tokenCount}
 use Rattle.plain.specs.Guards.{holds}
+use Rattle.plain.specs.Parser as parser
+use Rattle.plain.specs.Parser.{parsed, tokens}
 use Rattle.plain.specs.Readings.{standing, accepted, failed, over, reading}
 
 -- lists of the terminal 1: one nonterminal, made of one 1, or of itself and one 1 more; terminal 2 stands nowhere
@@ -61,6 +63,13 @@ off-fails = refl
 
 off-count : tokenCount either 0 ≡ 2
 off-count = refl
+
+-- the same by the list of the tokens: a 1 at place 0, a 1 at place 2, and the end at place 6
+on-tokens : tokens either 1 ≡ record { place = 0; terminal = 1 } ∷ record { place = 2; terminal = 1 } ∷ record { place = 6; terminal = 0 } ∷ []
+on-tokens = refl
+
+on-parsed : parsed either (tokens either 1) 5 ≡ parser.accepted
+on-parsed = refl
 
 -- if both switches are on; else if switch 0 is on: inside it, unless switch 1 is on; else
 abbrev pub nest : Model

@@ -2,6 +2,7 @@ pub mod Guards
 pub mod Branches
 pub mod Automaton
 pub mod Readings
+pub mod Parser
 pub mod Examples
 pub mod Acts
 pub mod Frames

@@ -2,7 +2,8 @@
 use mathlib.Core.Bool.{Bool, true, false}
 use mathlib.Core.List.{List}
 use mathlib.Core.Path.{_≡_}
-use Prim.Native.Nat.{ℕ, _≤_}
+use Prim.Native.Nat.{ℕ, _+_, _≤_}
+use lib.ListN.{length}
 use Rattle.std.specs.declared.option.Option.{Option}
 use Rattle.std.specs.declared.option.Option.the-variants.{Some, None}
 use Rattle.std.specs.declared.result.Result.{Result}
@@ -18,6 +19,8 @@ use Rattle.plain.specs.declared.reader.Report.{Report}
 use Rattle.plain.specs.declared.reader.Status.{Status}
 use Rattle.plain.specs.declared.reader.Status.the-variants.{Standing, Accepted, Failed}
 use Rattle.plain.specs.Branches.{tokenCount}
+use Rattle.plain.specs.Parser as parser
+use Rattle.plain.specs.Parser.{Token, parsed, tokens}
 use Rattle.plain.specs.Places.{At}
 use Rattle.plain.specs.Readings.{Reading, standing, accepted, failed, reading}
 
@@ -62,8 +65,17 @@ Ends m k budget actions ending.Accepted = reading m k actions ≡ accepted
 Ends m k budget actions (ending.Failed p r) = reading m k actions ≡ failed p r
 Ends m k budget actions ending.Spent = (actions ≡ budget) × ((p : ℕ) × ((stack : List ℕ) × (reading m k budget ≡ standing p stack)))
 
+-- the same of an ordinary LR parser on the tokens of configuration k
+abbrev pub Parses : Model → ℕ → ℕ → ℕ → Ending → Type 0
+Parses m k budget actions ending.Accepted = parsed m (tokens m k) actions ≡ parser.accepted
+Parses m k budget actions (ending.Failed p r) = parsed m (tokens m k) actions ≡ parser.failed p r
+Parses m k budget actions ending.Spent = (actions ≡ budget) × ((ts : List Token) × ((stack : List ℕ) × (parsed m (tokens m k) budget ≡ parser.ahead ts stack)))
+
 -- what is told of configuration k's reading, with a budget of actions
 pub record Told (m : Model) (k budget : ℕ) (r : Report) : Type 0 where
   pub tokens : r .tokens ≡ tokenCount m k
+  -- the end is one token more
+  pub listed : r .tokens + 1 ≡ length (parser.tokens m k)
   pub few : r .actions ≤ budget
   pub ends : Ends m k budget (r .actions) (r .ending)
+  pub parses : Parses m k budget (r .actions) (r .ending)
