@@ -6,7 +6,7 @@ use plain::Report;
 use plain::read;
 
 /// The most bytes that a delivery may have here.
-const LONGEST: usize = 65536;
+pub const LONGEST: usize = 65536;
 
 /// The actions that a reading may make here.
 const BUDGET: u64 = 1000000;

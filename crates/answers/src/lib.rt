@@ -4,6 +4,7 @@ mod numbers;
 mod texts;
 
 pub use answer::Answer;
+pub use answer::LONGEST;
 pub use answer::answer_for;
 pub use numbers::number_in;
 pub use texts::text_of;

@@ -183,31 +183,36 @@ module _ (d : Delivery) where
 
   -- what stands where
   pub action-there : (q t : ℕ) → q < d .parts .counts .states → t < d .parts .counts .terminals → ActionIndex d q t (Some (2 * (q * d .parts .counts .terminals + t)))
-  action-there q t row column =
-      (action-within (bytesOf d) is-sound _ counts-are _ (d .«actions_are») q t row column,
-      action-value (bytesOf d) is-sound _ counts-are _ (d .«actions_are») q t row column,
-      is-bounded .action q t)
+  action-there q t row column = (
+    action-within (bytesOf d) is-sound _ counts-are _ (d .«actions_are») q t row column,
+    action-value (bytesOf d) is-sound _ counts-are _ (d .«actions_are») q t row column,
+    is-bounded .action q t,
+  )
 
   pub goto-there : (q n : ℕ) → q < d .parts .counts .states → n < d .parts .counts .nonterminals → GotoIndex d q n (Some (2 * (q * d .parts .counts .nonterminals + n)))
-  goto-there q n row column =
-      (goto-within (bytesOf d) is-sound _ counts-are _ (d .«gotos_are») q n row column,
-      goto-value (bytesOf d) is-sound _ counts-are _ (d .«gotos_are») q n row column,
-      is-bounded .goto q n)
+  goto-there q n row column = (
+    goto-within (bytesOf d) is-sound _ counts-are _ (d .«gotos_are») q n row column,
+    goto-value (bytesOf d) is-sound _ counts-are _ (d .«gotos_are») q n row column,
+    is-bounded .goto q n,
+  )
 
   pub production-there : (p : ℕ) → p < d .parts .counts .productions → ProductionIndex d p (Some (4 * p))
-  production-there p h =
-      (production-within (bytesOf d) is-sound _ counts-are _ (d .«productions_are») p h,
-      production-value (bytesOf d) is-sound _ counts-are _ (d .«productions_are») p h,
-      is-bounded .production p)
+  production-there p h = (
+    production-within (bytesOf d) is-sound _ counts-are _ (d .«productions_are») p h,
+    production-value (bytesOf d) is-sound _ counts-are _ (d .«productions_are») p h,
+    is-bounded .production p,
+  )
 
   pub record-there : (i : ℕ) → i < d .parts .counts .records → RecordIndex d i (Some (4 * i))
-  record-there i h =
-      (record-within (bytesOf d) is-sound _ counts-are _ (d .«records_are») i h,
-      record-value (bytesOf d) is-sound _ counts-are _ (d .«records_are») i h,
-      is-bounded .«record» i)
+  record-there i h = (
+    record-within (bytesOf d) is-sound _ counts-are _ (d .«records_are») i h,
+    record-value (bytesOf d) is-sound _ counts-are _ (d .«records_are») i h,
+    is-bounded .«record» i,
+  )
 
   pub word-there : (i : ℕ) → i < d .parts .counts .«guard_words» → WordIndex d i (Some (2 * i))
-  word-there i h =
-      (word-within (bytesOf d) is-sound _ counts-are _ (d .«guards_are») i h,
-      word-value (bytesOf d) is-sound _ counts-are _ (d .«guards_are») i h,
-      is-bounded .word i)
+  word-there i h = (
+    word-within (bytesOf d) is-sound _ counts-are _ (d .«guards_are») i h,
+    word-value (bytesOf d) is-sound _ counts-are _ (d .«guards_are») i h,
+    is-bounded .word i,
+  )

@@ -4,6 +4,8 @@ ghost use mathlib.Core.Path.{_≡_};
 ghost use denote.Ref.{now};
 ghost use Rattle.std.specs.Options.{isSome};
 ghost use Rattle.format.specs.Heads.{countsOf, listed};
+ghost use Rattle.delivery.specs.Bounds.{Bounded};
+ghost use Rattle.delivery.specs.Decoded.{decoded};
 ghost use Rattle.delivery.specs.Deliveries.{actionsIn, gotosIn, guardsIn, productionsIn, recordsIn, refusalOf};
 ghost use Rattle.delivery.specs.Passing.{Passed};
 
@@ -11,7 +13,7 @@ mod reads;
 
 use crate::parts::Parts;
 
-/// Bytes that no rule refuses, with their counts and parts.
+/// Bytes that no rule refuses, with their counts and parts. So every action, goto, production, record and guard word of it is within its bounds, and its conditionals are well nested.
 #[derive(Clone, Copy)]
 pub struct Delivery<'a> {
     parts: Parts<'a>,
@@ -22,6 +24,7 @@ pub struct Delivery<'a> {
     ghost productions_are: { now (parts .productions) ≡ productionsIn (now (parts .bytes)) },
     ghost records_are: { now (parts .records) ≡ recordsIn (now (parts .bytes)) },
     ghost guards_are: { now (parts .guards) ≡ guardsIn (now (parts .bytes)) },
+    ghost bounded: { ∥ Bounded (decoded (now (parts .bytes))) ∥₁ },
 }
 
 impl<'a> Parts<'a> {

@@ -40,8 +40,8 @@ module _ (m : Model) (k : ℕ) where
   from-by p r e =
       ap (tokensFrom m k p (around m p)) (drop-record (m .records) p r e)
       ∙ (λ i.
-          let rest = tokensFrom m k (p + 1) (sym (around-more m k p r e) i) (drop (p + 1) (m .records)) in
-          cond (isToken r && has m k (around m p)) (record { place = p; terminal = terminalOf (sym e i) } ∷ rest) rest)
+      let rest = tokensFrom m k (p + 1) (sym (around-more m k p r e) i) (drop (p + 1) (m .records)) in
+      cond (isToken r && has m k (around m p)) (record { place = p; terminal = terminalOf (sym e i) } ∷ rest) rest)
 
   -- at the unit's end nothing is behind a place, and elsewhere the tokens from the next place on
   abbrev Behind : ℕ → List Token → Type 0

@@ -1,10 +1,12 @@
 //! A reader of one configuration.
 ghost use mathlib.Core.Bool.{cond, false, true};
+ghost use mathlib.Core.List.{[], _∷_};
 ghost use mathlib.Core.Path.{_≡_};
 ghost use Prim.Native.Nat.{ℕ, _+_, _^_, _≤_};
 ghost use lib.Dec.{ltb};
 ghost use Rattle.std.specs.Vec.{made};
 ghost use Rattle.format.specs.Firsts.{unless};
+ghost use Rattle.stacks.specs.Views.{itemsOf};
 ghost use Rattle.delivery.specs.Views.{modelOf};
 ghost use Rattle.plain.specs.Readings.{terminalOf};
 ghost use Rattle.plain.specs.Standing.{Stands, Told, endingOf, faultIn, isStanding, numbered};
@@ -90,6 +92,15 @@ fn terminal_at(delivery: &Delivery<'_>, place: usize) -> u16
     }
 }
 
+/// State 0 alone.
+fn first_stack() -> Stack<u16, DEPTH>
+    ensures { λ r. ⌜ itemsOf r ≡ 0 ∷ [] ⌝ }
+{
+    let mut stack = Stack::new(0);
+    stack.push(0);
+    stack
+}
+
 impl Reader {
     /// A reading that has made no action.
     pub fn new(delivery: &Delivery<'_>, configuration: u32) -> Result<Reader, Fault>
@@ -102,12 +113,10 @@ impl Reader {
         }
         let mut cursor = Cursor::new();
         cursor.seek(delivery, configuration);
-        let mut stack = Stack::new(0);
-        stack.push(0);
         Ok(Reader {
             configuration,
             cursor,
-            stack,
+            stack: first_stack(),
             status: Status::Standing,
         })
     }

@@ -130,6 +130,15 @@ fn configurations_have_a_range(rt: LibcRuntime) -> Result<(), Fail> {
     answers(&rt, bytes.as_slice(), u32::MAX, "refused 22 0")
 }
 
+/// Of more than 65,536 bytes nothing is looked at.
+#[test]
+fn length_has_a_limit(rt: LibcRuntime) -> Result<(), Fail> {
+    let mut bytes = vec![in rt.alloc(); 0u8; 65536]?;
+    answers(&rt, bytes.as_slice(), 0, "refused 2 0")?;
+    bytes.push(0)?;
+    answers(&rt, bytes.as_slice(), 0, "too long")
+}
+
 #[test]
 fn refusals_come_first(rt: LibcRuntime) -> Result<(), Fail> {
     answers(&rt, &[], 0, "refused 1 0")?;

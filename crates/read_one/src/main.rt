@@ -1,13 +1,11 @@
 //! Reads one configuration of the delivery on standard input: `read_one K < DELIVERY`.
+use answers::LONGEST;
 use answers::answer_for;
 use answers::number_in;
 use answers::text_of;
 use std::env;
 use std::io;
 use std::io::Read;
-
-/// One byte more than a delivery may have here.
-const MOST: u64 = 65537;
 
 /// The configuration that the arguments ask for, where they are one decimal number.
 fn asked(rt: &LibcRuntime) -> io::Result<Option<u32>> {
@@ -31,7 +29,7 @@ fn main(rt: LibcRuntime) -> io::Result<()> {
     };
     let heap = rt.alloc();
     let mut bytes = Vec::new(heap);
-    rt.stdin().take(MOST).read_to_end(&mut bytes)?;
+    rt.stdin().take(LONGEST as u64 + 1).read_to_end(&mut bytes)?;
     let text = text_of(heap, answer_for(bytes.as_slice(), configuration))?;
     println!(rt, "{text}")
 }
