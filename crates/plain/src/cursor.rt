@@ -16,10 +16,11 @@ use crate::frame::Frame;
 use crate::guards::guard_holds;
 use delivery::Delivery;
 use stacks::Stack;
+use units::NESTING;
 use units::Record;
 
 /// Whether the configuration has the innermost branch.
-fn has_innermost(frames: &Stack<Frame, 64>) -> bool
+fn has_innermost(frames: &Stack<Frame, NESTING>) -> bool
     ensures { λ r. ⌜ r ≡ hasInnermost (itemsOf (now (frames .entry))) ⌝ }
 {
     match frames.top() {
@@ -29,7 +30,12 @@ fn has_innermost(frames: &Stack<Frame, 64>) -> bool
 }
 
 /// Goes past a record, for whose frame there is room.
-fn pass(frames: &mut Stack<Frame, 64>, delivery: &Delivery<'_>, configuration: u32, record: Record)
+fn pass(
+    frames: &mut Stack<Frame, NESTING>,
+    delivery: &Delivery<'_>,
+    configuration: u32,
+    record: Record,
+)
     requires { ⌜ RecordBound (modelOf (now delivery)) «record» ⌝ }
     ensures { λ _. ⌜ (length (framed (modelOf (now (delivery .entry))) configuration «record» (itemsOf (now (frames .entry)))) ≤ 64 → itemsOf (now (frames .exit)) ≡ framed (modelOf (now (delivery .entry))) configuration «record» (itemsOf (now (frames .entry)))) ⌝ }
 {
@@ -68,7 +74,7 @@ fn pass(frames: &mut Stack<Frame, 64>, delivery: &Delivery<'_>, configuration: u
 }
 
 /// Whether the record is a token that the configuration has.
-fn is_present(record: Record, frames: &Stack<Frame, 64>) -> bool
+fn is_present(record: Record, frames: &Stack<Frame, NESTING>) -> bool
     ensures { λ r. ⌜ r ≡ (isToken «record» && hasInnermost (itemsOf (now (frames .entry)))) ⌝ }
 {
     matches!(record, Record::Token(_)) && has_innermost(frames)
@@ -78,7 +84,7 @@ fn is_present(record: Record, frames: &Stack<Frame, 64>) -> bool
 #[derive(Drop)]
 pub struct Cursor {
     pub place: usize,
-    pub frames: Stack<Frame, 64>,
+    pub frames: Stack<Frame, NESTING>,
 }
 
 impl Cursor {

@@ -12,6 +12,7 @@ ghost use Rattle.delivery.specs.Views.{modelOf};
 ghost use Rattle.plain.specs.Guards.{holds, worked};
 use delivery::Delivery;
 use stacks::Stack;
+use units::OPERANDS;
 use units::Word;
 
 /// Whether the switch is on in the configuration.
@@ -22,7 +23,7 @@ fn is_on(switch: u16, configuration: u32) -> bool
 }
 
 /// Works a word of a guard into the operands, for which there is room.
-fn work(operands: &mut Stack<bool, 16>, word: Word, configuration: u32)
+fn work(operands: &mut Stack<bool, OPERANDS>, word: Word, configuration: u32)
     requires { ⌜ isSome (heldBehind word (length (itemsOf (now operands)))) ≡ true ⌝ }
     ensures { λ _. ⌜ itemsOf (now (operands .exit)) ≡ worked configuration word (itemsOf (now (operands .entry))) ⌝ }
 {

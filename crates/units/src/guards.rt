@@ -5,6 +5,9 @@ ghost use lib.ListN.{drop, length};
 ghost use Rattle.units.specs.Guards.{guardValid, heldBehind, wordOf, wordsIn};
 use format::u16_at;
 
+/// The most operands that a guard may hold at once.
+pub const OPERANDS: usize = 16;
+
 /// A word of a guard.
 #[derive(Clone, Copy)]
 pub enum Word {
@@ -40,7 +43,7 @@ fn held_behind(word: Word, held: usize) -> Option<usize>
     ensures { λ r. ⌜ r ≡ heldBehind word held ⌝ }
 {
     match word {
-        Word::Switch(_) | Word::Whole | Word::Nothing if held < 16 => Some(held + 1),
+        Word::Switch(_) | Word::Whole | Word::Nothing if held < OPERANDS => Some(held + 1),
         Word::Not if held >= 1 => Some(held),
         Word::And | Word::Or if held >= 2 => Some(held - 1),
         _ => None,

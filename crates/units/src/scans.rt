@@ -18,6 +18,9 @@ use format::Refusal;
 use format::u16_at;
 use stacks::Stack;
 
+/// The most conditionals that may be open at once.
+pub const NESTING: usize = 64;
+
 /// The most branches that a unit may have.
 const BRANCHES: usize = 256;
 
@@ -25,12 +28,12 @@ const BRANCHES: usize = 256;
 #[derive(Drop)]
 struct Scan {
     /// Whether the else of each open conditional has come, the innermost on top.
-    nesting: Stack<bool, 64>,
+    nesting: Stack<bool, NESTING>,
     branches: usize,
 }
 
 /// Notes what the record opens and ends, or answers false where it may not stand there.
-fn nest(nesting: &mut Stack<bool, 64>, record: Record) -> bool
+fn nest(nesting: &mut Stack<bool, NESTING>, record: Record) -> bool
     ensures { λ r. ⌜ nested «record» (itemsOf (now (nesting .entry))) ≡ cond r (Some (itemsOf (now (nesting .exit)))) None ⌝ }
 {
     match record {
