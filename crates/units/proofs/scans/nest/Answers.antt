@@ -13,4 +13,4 @@ pub returns-in-Some-false-top : need.returns-in-Some-false-top
 returns-in-Some-false-top c =
     let top : nth (itemsOf (c .args .nesting .now)) 0 ≡ Some false = search needs in
     ap (λ r. nested r (itemsOf (c .args .nesting .now))) (c .in-Else .is)
-    ∙ else-noted _ _ _ _ (items-few (c .args .nesting .now)) top (c .cut .ensures) (c .push-in-Else .ensures .room) (c .push-in-Else .ensures .after)
+    ∙ else-noted _ _ _ _ _ (items-few (c .args .nesting .now)) top (c .cut .ensures) (c .push-in-Else .ensures .room) (c .push-in-Else .ensures .after)
