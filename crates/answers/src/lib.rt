@@ -1,4 +1,6 @@
 //! What the program that reads one configuration answers, and what it prints of it.
+#![tactic(auto)]
+
 mod answer;
 mod numbers;
 mod texts;

@@ -1,4 +1,6 @@
 //! A checked delivery: LR tables and a unit with static conditionals, in lent bytes.
+#![tactic(auto)]
+
 mod deliveries;
 mod parts;
 

@@ -1,4 +1,6 @@
 //! Tests of what is taken and what is refused, at the edges.
+#![tactic(auto)]
+
 #[cfg(test)]
 mod heads;
 #[cfg(test)]

@@ -1,4 +1,6 @@
 //! The outer form of a delivery: its numbers, its head, where its parts lie, and what may be wrong with it.
+#![tactic(auto)]
+
 mod heads;
 mod refusals;
 mod words;

@@ -1,4 +1,6 @@
 //! The plain reading of one configuration: what an LR parser does on the tokens that the configuration has.
+#![tactic(auto)]
+
 mod automaton;
 mod cursor;
 mod frame;

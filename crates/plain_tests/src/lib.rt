@@ -1,4 +1,6 @@
 //! Tests of the plain reading.
+#![tactic(auto)]
+
 #[cfg(test)]
 mod branches;
 #[cfg(test)]

@@ -1,4 +1,6 @@
 //! Reads one configuration of the delivery on standard input: `read_one K < DELIVERY`.
+#![tactic(auto)]
+
 use answers::{LONGEST, answer_for, number_in, text_of};
 use std::io::Read;
 use std::{env, io};

@@ -1,4 +1,6 @@
 //! Deliveries for the tests, whether or not they are allowed, and what the check should say of them.
+#![tactic(auto)]
+
 use delivery::check as check_delivery;
 use std::alloc::{AllocError, Global};
 use std::process::Abort;

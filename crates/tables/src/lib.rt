@@ -1,4 +1,6 @@
 //! The tables of an LR parser in a delivery: what their words say, and which are allowed.
+#![tactic(auto)]
+
 mod actions;
 mod gotos;
 mod productions;

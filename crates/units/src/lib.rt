@@ -1,4 +1,6 @@
 //! The unit in a delivery: tokens with nested static conditionals, as records, and the guards of its branches.
+#![tactic(auto)]
+
 mod guards;
 mod records;
 mod scans;

@@ -8,17 +8,17 @@ use Rattle.units.specs.Views.{state_of}
 use Rattle.units.proofs.Scanned.{scanned-goes, scanned-past, scanned-refused}
 use Rattle.units.proofs.scans.check_records.Goals as goal
 
-pub returns-in-err-pass : goal.returns-in-err-pass
-returns-in-err-pass c =
-    let p = err_from_is_err_and c.from-residual.result c.from-residual.ensures.1 in
-    let is : c.record-of-record.result ≡ record_of c.args.counts.terminals (u16_in c.args.records.now (4 * c.loop-i.i)) (u16_in c.args.records.now (4 * c.loop-i.i + 2)) = cc in
-    rw (p.1, p.2) (sym (c.loop-i.invariant.1 ∙ scanned-refused c.args.records.now _ _ _ _ _ (state_of c.loop-i.scan) _ c.loop-i-test.true is _ _ c.in-err-pass.ensures.exact))
+pub returns-in_err-pass : goal.returns-in_err-pass
+returns-in_err-pass c =
+    let p = err_from_is_err_and c.from_residual.result c.from_residual.ensures.1 in
+    let is : c.record_of-record.result ≡ record_of c.args.counts.terminals (u16_in c.args.records.now (4 * c.loop-i.i)) (u16_in c.args.records.now (4 * c.loop-i.i + 2)) = cc in
+    rw (p.1, p.2) (sym (c.loop-i.invariant.1 ∙ scanned-refused c.args.records.now _ _ _ _ _ (state_of c.loop-i.scan) _ c.loop-i-test.true is _ _ c.in_err-pass.ensures.exact))
 
 pub loop-i-preserved : goal.loop-i-preserved
 loop-i-preserved c =
-    let is : c.record-of-record.result ≡ record_of c.args.counts.terminals (u16_in c.args.records.now (4 * c.loop-i.i)) (u16_in c.args.records.now (4 * c.loop-i.i + 2)) = cc in (
-      c.in-ok-pass.ensures.few,
-      c.loop-i.invariant.1 ∙ scanned-goes c.args.records.now _ _ _ _ _ (state_of c.loop-i.scan) _ c.loop-i-test.true is _ c.in-ok-pass.ensures.exact,
+    let is : c.record_of-record.result ≡ record_of c.args.counts.terminals (u16_in c.args.records.now (4 * c.loop-i.i)) (u16_in c.args.records.now (4 * c.loop-i.i + 2)) = cc in (
+      c.in_ok-pass.ensures.few,
+      c.loop-i.invariant.1 ∙ scanned-goes c.args.records.now _ _ _ _ _ (state_of c.loop-i.scan) _ c.loop-i-test.true is _ c.in_ok-pass.ensures.exact,
     )
 
 pub returns-then-len-ne0 : goal.returns-then-len-ne0

@@ -7,4 +7,4 @@ pub returns : goal.returns
 returns g c =
     let s = c.args.self.now in
     let h : s.len ≤ length s.items = search rules in
-    ap (λ n. stacked n s.items) c.saturating-sub-self.ensures ∙ stacked-cut s.items s.len c.args.count h
+    ap (λ n. stacked n s.items) c.saturating_sub-self.ensures ∙ stacked-cut s.items s.len c.args.count h
