@@ -10,23 +10,23 @@ use Rattle.plain.proofs.guards.guard_holds.Goals as goal
 
 pub work-requires : goal.work-requires
 work-requires c =
-    word_held c.args.configuration (model_of c.args.delivery.now).guards c.loop-word.i c.in-Some.word (sym c.guard-word.ensures.value ∙ c.in-Some.is) (items_of c.loop-word.operands) c.loop-word.invariant.0
+    word_held c.args.configuration (model_of c.args.delivery.now).guards c.loop-word.i c.in-Some.word (sym c.guard_word.ensures.value ∙ c.in-Some.is) (items_of c.loop-word.operands) c.loop-word.invariant.0
 
-pub overflow-add-i : goal.overflow-add-i
-overflow-add-i c =
+pub overflow_add-i : goal.overflow_add-i
+overflow_add-i c =
     let words = (model_of c.args.delivery.now).guards in
-    let within : c.loop-word.i < length words = (leads_on words c.loop-word.i c.in-Some.word (sym c.guard-word.ensures.value ∙ c.in-Some.is)).1 in
+    let within : c.loop-word.i < length words = (leads_on words c.loop-word.i c.in-Some.word (sym c.guard_word.ensures.value ∙ c.in-Some.is)).1 in
     omega (arith, (is_bounded c.args.delivery.now).guards)
 
 pub loop-word-smaller : goal.loop-word-smaller
 loop-word-smaller c =
     let words = (model_of c.args.delivery.now).guards in
-    let within : c.loop-word.i < length words = (leads_on words c.loop-word.i c.in-Some.word (sym c.guard-word.ensures.value ∙ c.in-Some.is)).1 in
+    let within : c.loop-word.i < length words = (leads_on words c.loop-word.i c.in-Some.word (sym c.guard_word.ensures.value ∙ c.in-Some.is)).1 in
     omega arith
 
 pub loop-word-preserved : goal.loop-word-preserved
 loop-word-preserved c =
-    let at = sym c.guard-word.ensures.value ∙ c.in-Some.is in
+    let at = sym c.guard_word.ensures.value ∙ c.in-Some.is in
     let words = (model_of c.args.delivery.now).guards in
     let xs = items_of c.loop-word.operands in
     let ws = leading (drop (c.loop-word.i + 1) words) in (
@@ -37,7 +37,7 @@ loop-word-preserved c =
 pub returns : goal.returns
 returns c =
     let words = (model_of c.args.delivery.now).guards in
-    let none : leading (drop c.loop-word.i words) ≡ [] = leads_none words c.loop-word.i (sym c.guard-word.ensures.value ∙ c.in-default.is) in
-    c.unwrap-or.ensures
+    let none : leading (drop c.loop-word.i words) ≡ [] = leads_none words c.loop-word.i (sym c.guard_word.ensures.value ∙ c.in_default.is) in
+    c.unwrap_or.ensures
     ∙ ap (λ o. unwrap_or o false) c.top.ensures
     ∙ sym (c.loop-word.invariant.1 ∙ ap (λ ws. evaluated c.args.configuration ws (items_of c.loop-word.operands)) none)

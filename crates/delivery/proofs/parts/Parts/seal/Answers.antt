@@ -4,7 +4,16 @@ use Rattle.delivery.proofs.Bounding.{bounded}
 use Rattle.delivery.proofs.Sound.{sound}
 use Rattle.delivery.proofs.parts.Parts.seal.Goals as goal
 
-pub invariant-of-result : goal.invariant-of-result
-invariant-of-result c =
+pub invariant_of-result : goal.invariant_of-result
+invariant_of-result c =
     let p = c.requires in
-    (p.checked, (ap listed p.counts, (p.actions, (p.gotos, (p.productions, (p.records, (p.guards, (∣ bounded c.args.self.bytes.now (sound c.args.self.bytes.now p.checked) ∣₁, tt))))))))
+    record {
+      checked = p.checked;
+      counts_are = ap listed p.counts;
+      actions_are = p.actions;
+      gotos_are = p.gotos;
+      productions_are = p.productions;
+      records_are = p.records;
+      guards_are = p.guards;
+      bounded = ∣ bounded c.args.self.bytes.now (sound c.args.self.bytes.now p.checked) ∣₁;
+    }

@@ -6,7 +6,7 @@ use Rattle.plain.specs.declared.cursor.Cursor.{Cursor}
 use Rattle.plain.specs.Places.{At, Found}
 use Rattle.plain.proofs.Seeking.{none_past}
 use Rattle.plain.proofs.cursor.Cursor.advance.Goals as goal
-use Rattle.plain.proofs.cursor.Cursor.advance.Goals.{in-Some, in-default}
+use Rattle.plain.proofs.cursor.Cursor.advance.Goals.{in-Some, in_default}
 
 pub returns : goal.returns
 returns c = λ below at.
@@ -19,6 +19,6 @@ returns c = λ below at.
           (let there : At m k c.match-record.self.place (items_of c.match-record.self.frames) = subst (λ (s : Cursor). At m k s.place (items_of s.frames)) (sym w.self-is) (w.pass.ensures.at at) in
           let one : c.match-record.self.place ≡ p + 1 = ap (λ (s : Cursor). s.place) w.self-is ∙ w.pass.ensures.place in
           subst (λ q. Found m k q last.place (items_of last.frames)) one (c.seek.ensures there))
-      | in-default w ↦
-          (let past : finish m ≤ p = none_past m.records p (sym c.record.ensures.value ∙ w.in-default.is) in absurd (omega arith))
+      | in_default w ↦
+          (let past : finish m ≤ p = none_past m.records p (sym c.record.ensures.value ∙ w.in_default.is) in absurd (omega arith))
     ]

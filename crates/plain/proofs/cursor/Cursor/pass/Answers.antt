@@ -6,8 +6,8 @@ use Rattle.delivery.proofs.Read.{is_bounded}
 use Rattle.plain.proofs.Seeking.{at_more, framed_few, record_within}
 use Rattle.plain.proofs.cursor.Cursor.pass.Goals as goal
 
-pub overflow-add-self : goal.overflow-add-self
-overflow-add-self c =
+pub overflow_add-self : goal.overflow_add-self
+overflow_add-self c =
     let m = model_of c.args.delivery.now in
     let within : c.args.self.now.place < finish m = record_within m.records c.args.self.now.place c.args.record c.requires.here in
     omega (arith, (is_bounded c.args.delivery.now).records)

@@ -6,13 +6,13 @@ use Rattle.plain.specs.Branches.{next_place}
 use Rattle.plain.proofs.Seeking.{next_at_end, next_here, next_past, record_within}
 use Rattle.plain.proofs.cursor.Cursor.seek.Goals as goal
 
-pub returns-then-is-present : goal.returns-then-is-present
-returns-then-is-present c = λ at.
+pub returns-then-is_present : goal.returns-then-is_present
+returns-then-is_present c = λ at.
     let m = model_of c.args.delivery.now in
     let s = c.loop-record.self in
     let now = c.loop-record.invariant at in
     record {
-      place = sym (now.1 ∙ next_here m c.args.configuration s.place c.in-Some.record (sym c.record.ensures.value ∙ c.in-Some.is) (items_of s.frames) now.0 (sym c.is-present.ensures ∙ c.if-is-present.true));
+      place = sym (now.1 ∙ next_here m c.args.configuration s.place c.in-Some.record (sym c.record.ensures.value ∙ c.in-Some.is) (items_of s.frames) now.0 (sym c.is_present.ensures ∙ c.if-is_present.true));
       at = now.0;
     }
 
@@ -29,7 +29,7 @@ loop-record-preserved c = λ at.
     let now = c.loop-record.invariant at in (
       c.pass.ensures.at now.0,
       now.1
-          ∙ next_past m c.args.configuration s.place c.in-Some.record (sym c.record.ensures.value ∙ c.in-Some.is) (items_of s.frames) now.0 (sym c.is-present.ensures ∙ c.if-is-present.false)
+          ∙ next_past m c.args.configuration s.place c.in-Some.record (sym c.record.ensures.value ∙ c.in-Some.is) (items_of s.frames) now.0 (sym c.is_present.ensures ∙ c.if-is_present.false)
           ∙ ap (next_place m c.args.configuration) (sym c.pass.ensures.place),
     )
 
@@ -38,4 +38,4 @@ returns c = λ at.
     let m = model_of c.args.delivery.now in
     let s = c.loop-record.self in
     let now = c.loop-record.invariant at in
-    record { place = sym (now.1 ∙ next_at_end m c.args.configuration s.place (sym c.record.ensures.value ∙ c.in-default.is)); at = now.0 }
+    record { place = sym (now.1 ∙ next_at_end m c.args.configuration s.place (sym c.record.ensures.value ∙ c.in_default.is)); at = now.0 }

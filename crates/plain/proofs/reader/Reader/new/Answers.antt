@@ -20,5 +20,5 @@ returns c =
     record {
       refused = rw (← c.counts.ensures.value.switches, in_range k c.counts.result.switches c.if-configuration-counts-ne0.false);
       same = refl;
-      stands = record { shows = λ i. standing ((ap (next_place m k) (sym c.new-cursor.ensures.place) ∙ sym found.place) i) (sym c.first-stack.ensures i); at = found.at };
+      stands = record { shows = λ i. standing ((ap (next_place m k) (sym c.new-cursor.ensures.place) ∙ sym found.place) i) (sym c.first_stack.ensures i); at = found.at };
     }

@@ -16,7 +16,7 @@ returns-in-Shift c =
     let r = c.args.self.now in
     let p = r.cursor.place in
     let st = items_of c.act.new.stack in
-    let below : p < finish m = shift_below m (items_of r.stack) (is_bounded c.args.delivery.now) p st (ap (λ t. outcome m t (items_of r.stack)) (sym c.terminal-at-terminal.ensures) ∙ sym c.in-Shift.ensures) in
+    let below : p < finish m = shift_below m (items_of r.stack) (is_bounded c.args.delivery.now) p st (ap (λ t. outcome m t (items_of r.stack)) (sym c.terminal_at-terminal.ensures) ∙ sym c.in-Shift.ensures) in
     record {
       made = sym (ap is_standing c.in-Standing.is);
       same = refl;
@@ -24,7 +24,7 @@ returns-in-Shift c =
       stands = λ j s.
           (let found = c.advance.ensures below s.at in
           record {
-            shows = one_more m j r c.terminal-at-terminal.result _ c.in-Standing.is s c.terminal-at-terminal.ensures (sym c.in-Shift.ensures) ∙ ap (λ q. standing q st) (sym found.place) ∙ ap (λ a. shown_as a c.advance.new.self.place st) (sym c.in-Standing.is);
+            shows = one_more m j r c.terminal_at-terminal.result _ c.in-Standing.is s c.terminal_at-terminal.ensures (sym c.in-Shift.ensures) ∙ ap (λ q. standing q st) (sym found.place) ∙ ap (λ a. shown_as a c.advance.new.self.place st) (sym c.in-Standing.is);
             at = found.at;
           });
     }
@@ -38,7 +38,7 @@ returns-in-Reduce c =
       same = refl;
       kept = λ e. absurd (true≢false e);
       stands = λ j s. record {
-        shows = one_more m j r c.terminal-at-terminal.result _ c.in-Standing.is s c.terminal-at-terminal.ensures (sym c.in-Reduce.ensures) ∙ ap (λ a. shown_as a r.cursor.place (items_of c.act.new.stack)) (sym c.in-Standing.is);
+        shows = one_more m j r c.terminal_at-terminal.result _ c.in-Standing.is s c.terminal_at-terminal.ensures (sym c.in-Reduce.ensures) ∙ ap (λ a. shown_as a r.cursor.place (items_of c.act.new.stack)) (sym c.in-Standing.is);
         at = s.at;
       };
     }
@@ -51,7 +51,7 @@ returns-in-Accept c =
       same = refl;
       kept = λ e. absurd (true≢false e);
       stands = λ j s. record {
-        shows = one_more m j c.args.self.now c.terminal-at-terminal.result _ c.in-Standing.is s c.terminal-at-terminal.ensures (sym c.in-Accept.ensures);
+        shows = one_more m j c.args.self.now c.terminal_at-terminal.result _ c.in-Standing.is s c.terminal_at-terminal.ensures (sym c.in-Accept.ensures);
         at = s.at;
       };
     }
@@ -64,7 +64,7 @@ returns-in-Fail c =
       same = refl;
       kept = λ e. absurd (true≢false e);
       stands = λ j s. record {
-        shows = one_more m j c.args.self.now c.terminal-at-terminal.result _ c.in-Standing.is s c.terminal-at-terminal.ensures (sym c.in-Fail.ensures);
+        shows = one_more m j c.args.self.now c.terminal_at-terminal.result _ c.in-Standing.is s c.terminal_at-terminal.ensures (sym c.in-Fail.ensures);
         at = s.at;
       };
     }
