@@ -1,27 +1,21 @@
 //! The head: its length, its counts and its pairs.
 use samples::{SMALL, Size, put_u32, refused, set, sized, taken};
-use std::process::Abort;
 use std::test::Fail;
 
 #[test]
 fn head_is_whole(rt: HostRuntime) -> Result<(), Fail> {
     let bytes = sized(rt.alloc(), SMALL)?;
-    taken(&rt, bytes.as_slice())?;
+    taken(bytes.as_slice())?;
     assert!(rt; bytes.len() > 56);
-    refused(&rt, &bytes[0..55], 1, 55)?;
-    refused(&rt, &bytes[0..56], 3, 16)?;
-    refused(&rt, &bytes[0..0], 1, 0)
+    refused(&bytes[0..55], 1, 55)?;
+    refused(&bytes[0..56], 3, 16)?;
+    refused(&bytes[0..0], 1, 0)
 }
 
 /// The count at this byte of the head may be the most, and not one more.
-fn limited(
-    rt: &(impl Abort + AllocGlobal),
-    most: Size,
-    more: Size,
-    byte: usize,
-) -> Result<(), Fail> {
-    taken(rt, sized(rt.alloc(), most)?.as_slice())?;
-    refused(rt, sized(rt.alloc(), more)?.as_slice(), 2, byte)
+fn limited(rt: &impl AllocGlobal, most: Size, more: Size, byte: usize) -> Result<(), Fail> {
+    taken(sized(rt.alloc(), most)?.as_slice())?;
+    refused(sized(rt.alloc(), more)?.as_slice(), 2, byte)
 }
 
 #[test]
@@ -90,7 +84,7 @@ fn the_largest_is_taken(rt: HostRuntime) -> Result<(), Fail> {
         switches: 24,
         zero: 0,
     };
-    taken(&rt, sized(rt.alloc(), largest)?.as_slice())
+    taken(sized(rt.alloc(), largest)?.as_slice())
 }
 
 /// A byte of a pair, the word that is written there, and the pair that is then refused. The parts begin at 56, 60, 62, 66 and 70, have 4, 2, 4, 4 and 2 bytes, and end at 72.
@@ -121,11 +115,11 @@ fn one_of_each() -> Size {
 
 #[test]
 fn pairs_have_rules(rt: HostRuntime) -> Result<(), Fail> {
-    taken(&rt, sized(rt.alloc(), one_of_each())?.as_slice())?;
+    taken(sized(rt.alloc(), one_of_each())?.as_slice())?;
     for (at, word, pair) in CHANGED {
         let mut bytes = sized(rt.alloc(), one_of_each())?;
-        set(&rt, &mut bytes, at, word)?;
-        refused(&rt, bytes.as_slice(), 3, pair)?;
+        set(&mut bytes, at, word)?;
+        refused(bytes.as_slice(), 3, pair)?;
     }
     Ok(())
 }
@@ -135,9 +129,9 @@ fn pairs_have_rules(rt: HostRuntime) -> Result<(), Fail> {
 fn pairs_are_wide(rt: HostRuntime) -> Result<(), Fail> {
     for at in [16, 20, 24, 28, 32, 36, 40, 44, 48, 52] {
         let mut bytes = sized(rt.alloc(), one_of_each())?;
-        set(&rt, &mut bytes, at, 65535)?;
-        set(&rt, &mut bytes, at + 2, 65535)?;
-        refused(&rt, bytes.as_slice(), 3, at - at % 8)?;
+        set(&mut bytes, at, 65535)?;
+        set(&mut bytes, at + 2, 65535)?;
+        refused(bytes.as_slice(), 3, at - at % 8)?;
     }
     Ok(())
 }
@@ -147,10 +141,10 @@ fn pairs_are_wide(rt: HostRuntime) -> Result<(), Fail> {
 fn gaps_are_free(rt: HostRuntime) -> Result<(), Fail> {
     let mut bytes = sized(rt.alloc(), one_of_each())?;
     put_u32(&mut bytes, 0xffff_ffff)?;
-    taken(&rt, bytes.as_slice())?;
-    set(&rt, &mut bytes, 48, 72)?;
-    set(&rt, &mut bytes, 72, 0)?;
-    taken(&rt, bytes.as_slice())?;
-    set(&rt, &mut bytes, 48, 75)?;
-    refused(&rt, bytes.as_slice(), 3, 48)
+    taken(bytes.as_slice())?;
+    set(&mut bytes, 48, 72)?;
+    set(&mut bytes, 72, 0)?;
+    taken(bytes.as_slice())?;
+    set(&mut bytes, 48, 75)?;
+    refused(bytes.as_slice(), 3, 48)
 }

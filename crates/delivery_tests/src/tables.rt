@@ -1,6 +1,5 @@
 //! The words of the tables.
 use samples::{SMALL, Size, refused, set, sized, taken};
-use std::process::Abort;
 use std::test::Fail;
 
 /// A byte, the word that is written there, and the refusal's number and place; number 0 where it is taken.
@@ -16,14 +15,14 @@ fn two() -> Size {
     size
 }
 
-fn each(rt: &(impl Abort + AllocGlobal), cases: &[Case]) -> Result<(), Fail> {
+fn each(rt: &impl AllocGlobal, cases: &[Case]) -> Result<(), Fail> {
     for (at, word, number, place) in cases.iter().copied() {
         let mut bytes = sized(rt.alloc(), two())?;
-        set(rt, &mut bytes, at, word)?;
+        set(&mut bytes, at, word)?;
         if number == 0 {
-            taken(rt, bytes.as_slice())?;
+            taken(bytes.as_slice())?;
         } else {
-            refused(rt, bytes.as_slice(), number, place)?;
+            refused(bytes.as_slice(), number, place)?;
         }
     }
     Ok(())
@@ -96,34 +95,34 @@ fn the_largest_words(rt: HostRuntime) -> Result<(), Fail> {
     size.states = 256;
     size.productions = 256;
     let mut bytes = sized(rt.alloc(), size)?;
-    set(&rt, &mut bytes, 58, 256)?;
-    taken(&rt, bytes.as_slice())?;
-    set(&rt, &mut bytes, 58, 257)?;
-    refused(&rt, bytes.as_slice(), 4, 1)?;
-    set(&rt, &mut bytes, 58, 1255)?;
-    taken(&rt, bytes.as_slice())?;
-    set(&rt, &mut bytes, 58, 1256)?;
-    refused(&rt, bytes.as_slice(), 4, 1)
+    set(&mut bytes, 58, 256)?;
+    taken(bytes.as_slice())?;
+    set(&mut bytes, 58, 257)?;
+    refused(bytes.as_slice(), 4, 1)?;
+    set(&mut bytes, 58, 1255)?;
+    taken(bytes.as_slice())?;
+    set(&mut bytes, 58, 1256)?;
+    refused(bytes.as_slice(), 4, 1)
 }
 
 /// Of several rules the first in order is told, and of one rule the first place.
 #[test]
 fn the_first_is_told(rt: HostRuntime) -> Result<(), Fail> {
     let mut bytes = sized(rt.alloc(), two())?;
-    set(&rt, &mut bytes, 82, 17)?;
-    refused(&rt, bytes.as_slice(), 6, 1)?;
-    set(&rt, &mut bytes, 76, 2)?;
-    refused(&rt, bytes.as_slice(), 6, 0)?;
-    set(&rt, &mut bytes, 74, 3)?;
-    refused(&rt, bytes.as_slice(), 5, 3)?;
-    set(&rt, &mut bytes, 66, 3)?;
-    refused(&rt, bytes.as_slice(), 4, 5)?;
-    set(&rt, &mut bytes, 56, 1)?;
-    refused(&rt, bytes.as_slice(), 4, 0)?;
-    set(&rt, &mut bytes, 48, 0)?;
-    refused(&rt, bytes.as_slice(), 3, 48)?;
-    set(&rt, &mut bytes, 14, 1)?;
-    refused(&rt, bytes.as_slice(), 2, 14)?;
-    set(&rt, &mut bytes, 0, 0)?;
-    refused(&rt, bytes.as_slice(), 2, 0)
+    set(&mut bytes, 82, 17)?;
+    refused(bytes.as_slice(), 6, 1)?;
+    set(&mut bytes, 76, 2)?;
+    refused(bytes.as_slice(), 6, 0)?;
+    set(&mut bytes, 74, 3)?;
+    refused(bytes.as_slice(), 5, 3)?;
+    set(&mut bytes, 66, 3)?;
+    refused(bytes.as_slice(), 4, 5)?;
+    set(&mut bytes, 56, 1)?;
+    refused(bytes.as_slice(), 4, 0)?;
+    set(&mut bytes, 48, 0)?;
+    refused(bytes.as_slice(), 3, 48)?;
+    set(&mut bytes, 14, 1)?;
+    refused(bytes.as_slice(), 2, 14)?;
+    set(&mut bytes, 0, 0)?;
+    refused(bytes.as_slice(), 2, 0)
 }

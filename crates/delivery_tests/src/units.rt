@@ -1,7 +1,6 @@
 //! The records, their nesting, their guards and their branches.
 use samples::{refused, taken, unit};
 use std::alloc::{AllocError, Global};
-use std::process::Abort;
 use std::test::Fail;
 
 const X: (u16, u16) = (1, 1);
@@ -17,18 +16,17 @@ const END: (u16, u16) = (5, 0);
 /// A guard that holds everywhere.
 const WHOLE: [u16; 2] = [103, 0];
 
-fn fine(rt: &(impl Abort + AllocGlobal), records: &[(u16, u16)]) -> Result<(), Fail> {
-    taken(rt, unit(rt.alloc(), records, &WHOLE, 0)?.as_slice())
+fn fine(rt: &impl AllocGlobal, records: &[(u16, u16)]) -> Result<(), Fail> {
+    taken(unit(rt.alloc(), records, &WHOLE, 0)?.as_slice())
 }
 
 fn bad(
-    rt: &(impl Abort + AllocGlobal),
+    rt: &impl AllocGlobal,
     records: &[(u16, u16)],
     number: u8,
     place: usize,
 ) -> Result<(), Fail> {
     refused(
-        rt,
         unit(rt.alloc(), records, &WHOLE, 0)?.as_slice(),
         number,
         place,
@@ -104,17 +102,12 @@ fn branches(rt: HostRuntime) -> Result<(), Fail> {
 }
 
 /// A conditional with this guard, where there are two switches.
-fn valid(rt: &(impl Abort + AllocGlobal), guard: &[u16]) -> Result<(), Fail> {
-    taken(rt, unit(rt.alloc(), &[X, IF, END], guard, 2)?.as_slice())
+fn valid(rt: &impl AllocGlobal, guard: &[u16]) -> Result<(), Fail> {
+    taken(unit(rt.alloc(), &[X, IF, END], guard, 2)?.as_slice())
 }
 
-fn invalid(rt: &(impl Abort + AllocGlobal), guard: &[u16]) -> Result<(), Fail> {
-    refused(
-        rt,
-        unit(rt.alloc(), &[X, IF, END], guard, 2)?.as_slice(),
-        9,
-        1,
-    )
+fn invalid(rt: &impl AllocGlobal, guard: &[u16]) -> Result<(), Fail> {
+    refused(unit(rt.alloc(), &[X, IF, END], guard, 2)?.as_slice(), 9, 1)
 }
 
 #[test]
@@ -180,9 +173,9 @@ fn guard_places(rt: HostRuntime) -> Result<(), Fail> {
     ] {
         let bytes = unit(rt.alloc(), &[(2, first), X, (3, second), END], &words, 2)?;
         if place == 9 {
-            taken(&rt, bytes.as_slice())?;
+            taken(bytes.as_slice())?;
         } else {
-            refused(&rt, bytes.as_slice(), 9, place)?;
+            refused(bytes.as_slice(), 9, place)?;
         }
     }
     Ok(())
@@ -193,33 +186,20 @@ fn guard_places(rt: HostRuntime) -> Result<(), Fail> {
 fn the_first_is_told(rt: HostRuntime) -> Result<(), Fail> {
     let none = [0];
     refused(
-        &rt,
         unit(rt.alloc(), &[IF, END, END], &none, 0)?.as_slice(),
         9,
         0,
     )?;
+    refused(unit(rt.alloc(), &[END, IF], &none, 0)?.as_slice(), 8, 0)?;
     refused(
-        &rt,
-        unit(rt.alloc(), &[END, IF], &none, 0)?.as_slice(),
-        8,
-        0,
-    )?;
-    refused(
-        &rt,
         unit(rt.alloc(), &[ELIF, (9, 9)], &none, 0)?.as_slice(),
         8,
         0,
     )?;
-    refused(
-        &rt,
-        unit(rt.alloc(), &[IF, (9, 9)], &none, 0)?.as_slice(),
-        9,
-        0,
-    )?;
+    refused(unit(rt.alloc(), &[IF, (9, 9)], &none, 0)?.as_slice(), 9, 0)?;
     let mut records = flat(rt.alloc(), 1, 254)?;
     records.push((2, 1))?;
     refused(
-        &rt,
         unit(rt.alloc(), records.as_slice(), &WHOLE, 0)?.as_slice(),
         9,
         257,
@@ -227,7 +207,6 @@ fn the_first_is_told(rt: HostRuntime) -> Result<(), Fail> {
     let _ = records.pop();
     records.push((4, 1))?;
     refused(
-        &rt,
         unit(rt.alloc(), records.as_slice(), &WHOLE, 0)?.as_slice(),
         7,
         257,
@@ -235,7 +214,6 @@ fn the_first_is_told(rt: HostRuntime) -> Result<(), Fail> {
     let _ = records.pop();
     records.push(IF)?;
     refused(
-        &rt,
         unit(rt.alloc(), records.as_slice(), &WHOLE, 0)?.as_slice(),
         10,
         257,

@@ -17,12 +17,12 @@ fn answers(
 }
 
 /// A parser with one state that shifts terminal 1 and accepts at the end, on so many tokens: byte 56 is the end's action, 58 that of terminal 1.
-fn shifts(rt: &(impl Abort + AllocGlobal), tokens: u16) -> Result<Vec<u8>, Fail> {
+fn shifts(rt: &impl AllocGlobal, tokens: u16) -> Result<Vec<u8>, Fail> {
     let mut size = SMALL;
     size.records = tokens;
     let mut bytes = sized(rt.alloc(), size)?;
-    set(rt, &mut bytes, 56, 2000)?;
-    set(rt, &mut bytes, 58, 1)?;
+    set(&mut bytes, 56, 2000)?;
+    set(&mut bytes, 58, 1)?;
     Ok(bytes)
 }
 
@@ -50,13 +50,13 @@ fn the_stack_is_full(rt: HostRuntime) -> Result<(), Fail> {
 }
 
 /// A parser with one state that reduces at the end of an empty unit: byte 56 is the end's action, 60 the goto, 64 the production's length.
-fn reduces(rt: &(impl Abort + AllocGlobal), goto: u16, length: u16) -> Result<Vec<u8>, Fail> {
+fn reduces(rt: &impl AllocGlobal, goto: u16, length: u16) -> Result<Vec<u8>, Fail> {
     let mut size = SMALL;
     size.productions = 1;
     let mut bytes = sized(rt.alloc(), size)?;
-    set(rt, &mut bytes, 56, 1000)?;
-    set(rt, &mut bytes, 60, goto)?;
-    set(rt, &mut bytes, 64, length)?;
+    set(&mut bytes, 56, 1000)?;
+    set(&mut bytes, 60, goto)?;
+    set(&mut bytes, 64, length)?;
     Ok(bytes)
 }
 
@@ -105,10 +105,10 @@ fn a_budget_is_spent(rt: HostRuntime) -> Result<(), Fail> {
     size.states = 2;
     size.productions = 2;
     let mut bytes = sized(rt.alloc(), size)?;
-    set(&rt, &mut bytes, 56, 1000)?;
-    set(&rt, &mut bytes, 60, 1001)?;
-    set(&rt, &mut bytes, 64, 2)?;
-    set(&rt, &mut bytes, 74, 1)?;
+    set(&mut bytes, 56, 1000)?;
+    set(&mut bytes, 60, 1001)?;
+    set(&mut bytes, 64, 2)?;
+    set(&mut bytes, 74, 1)?;
     answers(
         &rt,
         bytes.as_slice(),
@@ -147,6 +147,6 @@ fn length_has_a_limit(rt: HostRuntime) -> Result<(), Fail> {
 fn refusals_come_first(rt: HostRuntime) -> Result<(), Fail> {
     answers(&rt, &[], 0, "refused 1 0")?;
     let mut bytes = sized(rt.alloc(), SMALL)?;
-    set(&rt, &mut bytes, 56, 7)?;
+    set(&mut bytes, 56, 7)?;
     answers(&rt, bytes.as_slice(), u32::MAX, "refused 4 0")
 }

@@ -1,9 +1,8 @@
 //! Deliveries for the tests, whether or not they are allowed, and what the check should say of them.
 #![tactic(auto)]
 
-use delivery::check as check_delivery;
+use delivery::{Refusal, check as check_delivery};
 use std::alloc::{AllocError, Global};
-use std::process::Abort;
 use std::test::Fail;
 
 /// How many there are of each thing, and the head's last count.
@@ -132,33 +131,37 @@ pub fn unit(
 }
 
 /// Writes a word at a byte.
-pub fn set(rt: &impl Abort, bytes: &mut Vec<u8>, at: usize, word: u16) -> Result<(), Fail> {
+pub fn set(bytes: &mut Vec<u8>, at: usize, word: u16) -> Result<(), Fail> {
     let [low, high] = word.to_le_bytes();
-    assert!(rt; at < 100000);
-    assert!(rt; at + 1 < bytes.len());
+    if at >= 100000 || at + 1 >= bytes.len() {
+        return Err(Fail::new(format_args!("there is no word at byte {at}")));
+    }
     bytes[at] = low;
     bytes[at + 1] = high;
     Ok(())
 }
 
 /// Whether these bytes are taken.
-pub fn taken(rt: &impl Abort, bytes: &[u8]) -> Result<(), Fail> {
+pub fn taken(bytes: &[u8]) -> Result<(), Fail> {
     match check_delivery(bytes) {
         Ok(_) => Ok(()),
-        Err(refusal) => {
-            assert_eq!(rt; (refusal.number(), refusal.place()), (0, 0));
-            Ok(())
-        },
+        Err(refusal) => told(refusal, 0, 0),
     }
 }
 
 /// Whether these bytes are refused by this number at this place.
-pub fn refused(rt: &impl Abort, bytes: &[u8], number: u8, place: usize) -> Result<(), Fail> {
+pub fn refused(bytes: &[u8], number: u8, place: usize) -> Result<(), Fail> {
     match check_delivery(bytes) {
         Ok(_) => Err(Fail::new("the delivery is taken")),
-        Err(refusal) => {
-            assert_eq!(rt; (refusal.number(), refusal.place()), (number, place));
-            Ok(())
-        },
+        Err(refusal) => told(refusal, number, place),
     }
+}
+
+/// Whether the refusal has this number and this place.
+fn told(refusal: Refusal, number: u8, place: usize) -> Result<(), Fail> {
+    let has = (refusal.number(), refusal.place());
+    if has != (number, place) {
+        return Err(Fail::new(format_args!("refused by {has:?} and not by {number} at {place}")));
+    }
+    Ok(())
 }

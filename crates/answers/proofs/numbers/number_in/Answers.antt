@@ -21,9 +21,9 @@ loop-b-preserved c =
     let b = get_or text c.loop-b.b-index 0 in
     let low : 48 ≤ b = search rules in
     let high : b ≤ 57 = search rules in
-    let held : min c.saturating-add-value.result 4294967295 ≡ min (v * 10 + (b - 48)) 4294967295 = omega arith in (
-      c.saturating-add-value.type-inv,
-      c.loop-b.invariant.1 ∙ at_drop_more (spelled_behind v) text c.loop-b.b-index 0 c.loop-b-test.true ∙ spelled_more v b (drop (c.loop-b.b-index + 1) text) low high c.saturating-add-value.result held,
+    let held : min c.saturating_add-value.result 4294967295 ≡ min (v * 10 + (b - 48)) 4294967295 = omega arith in (
+      c.saturating_add-value.type_inv,
+      c.loop-b.invariant.1 ∙ at_drop_more (spelled_behind v) text c.loop-b.b-index 0 c.loop-b-test.true ∙ spelled_more v b (drop (c.loop-b.b-index + 1) text) low high c.saturating_add-value.result held,
     )
 
 pub returns : goal.returns
