@@ -1,4 +1,4 @@
-use Rattle.std.proofs.Common.{◌<◌, true, sym, refl, ap, ◌∙◌}
+use Rattle.std.proofs.Common.{◌<◌, sym, refl, ap, ◌∙◌}
 use Rattle.std.proofs.lemmas.Bool.{true≢false}
 use Rattle.stacks.specs.Views.{items_of}
 use Rattle.delivery.specs.Model.{finish}
