@@ -4,6 +4,6 @@
 #[cfg(test)]
 mod heads;
 #[cfg(test)]
-mod tables;
+mod table_words;
 #[cfg(test)]
-mod units;
+mod unit_records;
