@@ -1,10 +1,13 @@
 -- What is printed of an answer.
 use Rattle.std.specs.Prelude.{ℕ, List, ◌∷◌, ◌++◌, codes, decimal}
+use Rattle.format.specs.Refusals as refusals
 use Rattle.plain.specs.declared.reader.Ending.{Ending}
 use Rattle.plain.specs.declared.reader.Ending.TheVariants.{Accepted, Failed, Spent}
 use Rattle.plain.specs.Automaton.{reason_number}
-use Rattle.answers.specs.declared.answer.Answer.{Answer}
-use Rattle.answers.specs.declared.answer.Answer.TheVariants.{TooLong, Refused, Read}
+use Rattle.plain.specs.Standing as faults
+use Rattle.answers.specs.declared.answer.Reading.{Reading}
+use Rattle.answers.specs.declared.answer.Refused.{Refused}
+use Rattle.answers.specs.declared.answer.Refused.TheVariants.{TooLong, Delivery, Configuration}
 
 abbrev pub ending_text : Ending → ℕ → List ℕ
 ending_text Accepted actions = codes "accepted " ++ decimal actions
@@ -12,10 +15,17 @@ ending_text (Failed place reason) actions = codes "failed " ++ (decimal place ++
 ending_text Spent actions = codes "spent " ++ decimal actions
 
 -- a line's end is byte 10
-abbrev pub text_of : Answer → List ℕ
-text_of TooLong = codes "too long"
-text_of (Refused number place) = codes "refused " ++ (decimal number ++ (codes " " ++ decimal place))
-text_of (Read configuration report) =
-    codes "configuration " ++ (decimal configuration
-    ++ (10 ∷ codes "tokens " ++ (decimal report.tokens
-    ++ (10 ∷ ending_text report.ending report.actions))))
+abbrev pub reading_text : Reading → List ℕ
+reading_text reading =
+    codes "configuration " ++ (decimal reading.configuration
+    ++ (10 ∷ codes "tokens " ++ (decimal reading.report.tokens
+    ++ (10 ∷ ending_text reading.report.ending reading.report.actions))))
+
+-- a refusal's number and place
+abbrev pub numbered_text : ℕ × ℕ → List ℕ
+numbered_text n = codes "refused " ++ (decimal n.0 ++ (codes " " ++ decimal n.1))
+
+abbrev pub refused_text : Refused → List ℕ
+refused_text TooLong = codes "too long"
+refused_text (Delivery refusal) = numbered_text (refusals.numbered refusal)
+refused_text (Configuration fault) = numbered_text (faults.numbered fault)

@@ -5,6 +5,5 @@ mod answer;
 mod numbers;
 mod texts;
 
-pub use answer::{Answer, LONGEST, answer_for};
+pub use answer::{LONGEST, Reading, Refused, answer_for};
 pub use numbers::number_in;
-pub use texts::text_of;

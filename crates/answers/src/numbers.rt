@@ -10,13 +10,9 @@ pub fn number_in(text: &[u8]) -> Option<u32>
         return None;
     }
     let mut value: u32 = 0;
-    for b in text {
-        if *b < b'0' || *b > b'9' {
-            return None;
-        }
-        value = value
-            .saturating_mul(10)
-            .saturating_add(u32::from(*b - b'0'));
+    for &b in text {
+        let digit = char::from(b).to_digit(10)?;
+        value = value.saturating_mul(10).saturating_add(digit);
     }
     Some(value)
 }

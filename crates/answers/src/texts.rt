@@ -1,35 +1,42 @@
-//! An answer as text.
-ghost use Rattle.std.specs.Prelude.{◌≡◌, IfOk, string_bytes};
-ghost use Rattle.answers.specs.Texts.{text_of};
+//! What is printed of an answer, without the last line's end.
+ghost use Rattle.std.specs.Prelude.{Some};
+ghost use Rattle.answers.specs.Texts.{reading_text, refused_text};
 
-use crate::answer::Answer;
+use crate::answer::{Reading, Refused};
+use format::told;
 use plain::Ending;
-use std::alloc::{AllocError, Global};
+use std::error::Error;
+use std::fmt;
 
-/// What is printed of an answer, without the last line's end.
-pub fn text_of(heap: Global, answer: Answer) -> Result<String, AllocError>
-    ensures { IfOk result (λ s. string_bytes s ≡ text_of answer) }
-{
-    match answer {
-        Answer::TooLong => String::from_str(heap, "too long"),
-        Answer::Refused(number, place) => format!(in heap; "refused {number} {place}"),
-        Answer::Read(configuration, report) => {
-            let tokens = report.tokens;
-            let actions = report.actions;
-            match report.ending {
-                Ending::Accepted => format!(in heap;
-                    "configuration {configuration}\ntokens {tokens}\naccepted {actions}"
-                ),
-                Ending::Failed(place, reason) => {
-                    let number = reason.number();
-                    format!(in heap;
-                        "configuration {configuration}\ntokens {tokens}\nfailed {place} {number} {actions}"
-                    )
-                }
-                Ending::Spent => format!(in heap;
-                    "configuration {configuration}\ntokens {tokens}\nspent {actions}"
-                ),
+impl fmt::Display for Reading {
+    ghost output = { λ reading. Some (reading_text reading) };
+
+    fn fmt<W: fmt::Write>(&self, f: &mut fmt::Formatter<W>) -> fmt::Result {
+        let report = self.report;
+        let actions = report.actions;
+        writeln!(f, "configuration {}", self.configuration)?;
+        writeln!(f, "tokens {}", report.tokens)?;
+        match report.ending {
+            Ending::Accepted => write!(f, "accepted {actions}"),
+            Ending::Failed(place, reason) => {
+                write!(f, "failed {place} {} {actions}", reason.number())
             }
+            Ending::Spent => write!(f, "spent {actions}"),
         }
     }
 }
+
+impl fmt::Display for Refused {
+    ghost output = { λ refused. Some (refused_text refused) };
+
+    fn fmt<W: fmt::Write>(&self, f: &mut fmt::Formatter<W>) -> fmt::Result {
+        let (number, place) = match self {
+            Refused::TooLong => return f.write_str("too long"),
+            Refused::Delivery(refusal) => told(*refusal),
+            Refused::Configuration(fault) => told(*fault),
+        };
+        write!(f, "refused {number} {place}")
+    }
+}
+
+impl Error for Refused {}

@@ -10,18 +10,18 @@ use Rattle.tables.specs.declared.actions.Action.TheVariants.{None as NoAction}
 use Rattle.units.specs.declared.records.Record.{Record}
 use Rattle.units.specs.declared.records.Record.TheVariants.{Token, If, Elif, Else, End}
 use Rattle.units.specs.declared.guards.Word.{Word}
-use Rattle.format.specs.Words.{u16_in}
+use Rattle.format.specs.Words.{u16_in, words_in}
 use Rattle.format.proofs.Counted.{found_counted, get_or-counted, length-counted, read_counted}
 use Rattle.tables.specs.Actions.{action_in, action_of}
 use Rattle.tables.specs.Gotos.{goto_of}
 use Rattle.tables.specs.Productions.{production_in, production_of}
-use Rattle.units.specs.Guards.{guard_valid, word_of, words_in}
+use Rattle.units.specs.Guards.{guard_valid, leading, word_of}
 use Rattle.units.specs.Records as records
 use Rattle.units.specs.Scans.{begin, guard_good}
 use Rattle.delivery.specs.Bounds.{ActionBound, Balanced, Bounded, ProductionBound, RecordBound, WordBound}
 use Rattle.delivery.specs.Decoded.{decoded}
 use Rattle.delivery.specs.Deliveries.{actions_in, gotos_in, guards_in, productions_in, records_in}
-use Rattle.delivery.specs.Model.{Model, action_at, goto_at, guard_at, leading, production_at, record_at, word_at}
+use Rattle.delivery.specs.Model.{Model, action_at, goto_at, guard_at, production_at, record_at, word_at}
 use Rattle.delivery.proofs.Guarded.{guard_balanced, valid_within}
 use Rattle.delivery.proofs.Nested.{Scans, allowed, scans}
 use Rattle.delivery.proofs.Sound.{Sound}

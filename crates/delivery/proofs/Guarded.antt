@@ -3,9 +3,8 @@ use Rattle.std.proofs.Common.{◌≡◌, ℕ, ◌<◌, ◌≤◌, Bool, true, fa
 use Rattle.std.proofs.lemmas.List.{drop_all, drop-map}
 use Rattle.std.proofs.lemmas.Bool.{both_ways, cases_Bool, cases_lt, cond-false, cond-true, eqb-true}
 use Rattle.units.specs.declared.guards.Word.{Word}
-use Rattle.units.specs.Guards.{guard_valid, held_behind, passes, word_of}
+use Rattle.units.specs.Guards.{guard_valid, held_behind, leading, passes, word_of}
 use Rattle.delivery.specs.Bounds.{Balanced}
-use Rattle.delivery.specs.Model.{leading}
 
 -- a word that says something, and the words behind it
 one_more : (o : Option Word) (held : ℕ) (next : ℕ → Bool) (ws : List (Option Word)) → passes o (λ word. passes (held_behind word held) next) ≡ true → ((behind : ℕ) → next behind ≡ true → Balanced behind (leading ws)) → Balanced held (leading (o ∷ ws))

@@ -3,3 +3,4 @@ pub mod Guarded
 pub mod Nested
 pub mod Bounding
 pub mod Read
+pub mod Checked

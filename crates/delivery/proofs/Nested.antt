@@ -1,6 +1,7 @@
 -- Records of which none is refused are well nested, and name valid guards.
-use Rattle.std.proofs.Common.{◌≡◌, ℕ, zero, suc, ◌+◌, ◌<◌, ◌≤◌, Bool, true, false, cond, leb, List, [], ◌∷◌, map, length, get_or, Some, None, Ok, Err, Option, Result, unwrap_or, refl, ap, ◌∙◌, arith}
+use Rattle.std.proofs.Common.{◌≡◌, ℕ, zero, suc, ◌+◌, ◌<◌, ◌≤◌, Bool, true, false, cond, leb, List, [], ◌∷◌, map, length, get_or, Some, None, Ok, Err, Option, Result, unwrap_or, sym, refl, ap, ◌∙◌, arith}
 use Rattle.std.proofs.lemmas.List.{nil_from_length}
+use Rattle.std.proofs.lemmas.Option.{none-some}
 use Rattle.std.proofs.lemmas.Bool.{eqb-true, leb-true}
 use Rattle.format.proofs.Firsts.{unless-none}
 use Rattle.units.specs.declared.records.Record.{Record}
@@ -8,8 +9,8 @@ use Rattle.units.specs.declared.records.Record.TheVariants.{End}
 use Rattle.units.specs.Scans.{State, and_on, begun, guard_good, nested, passed, scanned}
 use Rattle.delivery.specs.Bounds.{WellNested, branches}
 
-no_some : {X : Type 0} {Y : Type 0} (x : X) → ◌≡◌ {A = Option X} (Some x) None → Y
-no_some x e = absurd (let z : ◌≡◌ {A = ℕ} 0 1 = cc in omega arith)
+pub no_some : {X : Type 0} {Y : Type 0} (x : X) → ◌≡◌ {A = Option X} (Some x) None → Y
+no_some x e = absurd (none-some x (sym e))
 
 -- what is allowed, with the end of a conditional in the place of what is not
 abbrev pub allowed : Option Record → Record

@@ -38,6 +38,10 @@ ActionBound m t (Shift q) = (q < m.states) × (0 < t)
 ActionBound m t (Reduce p) = p < length m.productions
 ActionBound m t Accept = t ≡ 0
 
+-- a goto is to a state that there is
+abbrev pub GotoBound : Model → ℕ → Type 0
+GotoBound m to = to < m.states
+
 abbrev pub ProductionBound : Model → Production → Type 0
 ProductionBound m p = (p.left < m.nonterminals) × (p.length ≤ 16)
 
@@ -79,7 +83,7 @@ pub record Bounded (m : Model) : Type 0 where
   pub guards : length m.guards ≤ 4096
   pub switches : m.switches ≤ 24
   pub action : (q t : ℕ) → ActionBound m t (action_at m q t)
-  pub goto : (q n : ℕ) → IfSome (goto_at m q n) (λ to. to < m.states)
+  pub goto : (q n : ℕ) → IfSome (goto_at m q n) (GotoBound m)
   pub production : (p : ℕ) → IfSome (production_at m p) (ProductionBound m)
   pub «record» : (i : ℕ) → IfSome (record_at m i) (RecordBound m)
   pub word : (i : ℕ) → IfSome (word_at m i) (WordBound m)

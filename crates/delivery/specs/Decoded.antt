@@ -5,11 +5,11 @@ use Rattle.std.specs.Option.{unwrap_or}
 use Rattle.tables.specs.declared.actions.Action.TheVariants.{None as NoAction}
 use Rattle.units.specs.declared.records.Record.TheVariants.{End}
 use Rattle.format.specs.Heads.{counts_of}
-use Rattle.format.specs.Words.{u16_in}
+use Rattle.format.specs.Words.{u16_in, words_in}
 use Rattle.tables.specs.Actions.{action_in}
 use Rattle.tables.specs.Gotos.{goto_of}
 use Rattle.tables.specs.Productions.{production_in}
-use Rattle.units.specs.Guards.{word_of, words_in}
+use Rattle.units.specs.Guards.{word_of}
 use Rattle.units.specs.Records as records
 use Rattle.delivery.specs.Deliveries.{actions_in, gotos_in, guards_in, productions_in, records_in}
 use Rattle.delivery.specs.Model.{Model}

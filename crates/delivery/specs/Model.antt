@@ -1,11 +1,12 @@
 -- What a delivery holds, as data: the tables as lists, and the records and the guards' words as what they say.
-use Rattle.std.specs.Prelude.{ℕ, ◌+◌, ◌*◌, cond, List, [], ◌∷◌, length, drop, Some, None, Option, nat_lt, slice_index_or}
+use Rattle.std.specs.Prelude.{ℕ, ◌+◌, ◌*◌, cond, List, length, drop, None, Option, nat_lt, slice_index_or}
 use Rattle.std.specs.List.{slice_get}
 use Rattle.tables.specs.declared.actions.Action.{Action}
 use Rattle.tables.specs.declared.actions.Action.TheVariants.{None as NoAction}
 use Rattle.tables.specs.declared.productions.Production.{Production}
 use Rattle.units.specs.declared.records.Record.{Record}
 use Rattle.units.specs.declared.guards.Word.{Word}
+pub use Rattle.units.specs.Guards.{leading}
 
 pub record Model : Type 0 where
   pub states : ℕ
@@ -37,12 +38,6 @@ record_at m i = slice_get m.records i
 
 abbrev pub word_at : Model → ℕ → Option Word
 word_at m i = slice_index_or m.guards i None
-
--- the items in front of the first that is missing
-abbrev pub leading : {X : Type 0} → List (Option X) → List X
-leading [] = []
-leading (None ∷ xs) = []
-leading (Some x ∷ xs) = x ∷ leading xs
 
 -- the guard that begins at a word
 abbrev pub guard_at : Model → ℕ → List Word

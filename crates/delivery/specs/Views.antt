@@ -5,7 +5,7 @@ use Rattle.delivery.specs.Decoded.{decoded}
 use Rattle.delivery.specs.Model.{Model}
 
 abbrev pub bytes_of : Delivery → List ℕ
-bytes_of d = d.parts.bytes.now
+bytes_of d = d.bytes.now
 
 abbrev pub model_of : Delivery → Model
 model_of d = decoded (bytes_of d)

@@ -2,10 +2,8 @@
 #![tactic(auto)]
 
 mod deliveries;
-mod parts;
 
-pub use deliveries::Delivery;
-pub use format::{Counts, Refusal};
-pub use parts::{Parts, check};
+pub use deliveries::{Delivery, check};
+pub use format::{Counts, Numbered, Refusal};
 pub use tables::{Action, Production};
-pub use units::{Record, Word};
+pub use units::{Guard, Record, Word};

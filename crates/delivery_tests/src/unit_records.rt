@@ -1,36 +1,18 @@
 //! The records, their nesting, their guards and their branches.
-use samples::{refused, taken, unit};
+use samples::{ELIF, ELSE, END, IF, Words, X, checked, elif_at, if_at, refused, taken, unit};
 use std::alloc::{AllocError, Global};
+use std::iter::repeat_n;
 use std::test::Fail;
-
-const X: (u16, u16) = (1, 1);
-
-const IF: (u16, u16) = (2, 0);
-
-const ELIF: (u16, u16) = (3, 0);
-
-const ELSE: (u16, u16) = (4, 0);
-
-const END: (u16, u16) = (5, 0);
 
 /// A guard that holds everywhere.
 const WHOLE: [u16; 2] = [103, 0];
 
-fn fine(rt: &impl AllocGlobal, records: &[(u16, u16)]) -> Result<(), Fail> {
-    taken(unit(rt.alloc(), records, &WHOLE, 0)?.as_slice())
+fn fine(rt: &impl AllocGlobal, records: &[Words]) -> Result<(), Fail> {
+    taken(&unit(rt.alloc(), records, &WHOLE, 0)?)
 }
 
-fn bad(
-    rt: &impl AllocGlobal,
-    records: &[(u16, u16)],
-    number: u8,
-    place: usize,
-) -> Result<(), Fail> {
-    refused(
-        unit(rt.alloc(), records, &WHOLE, 0)?.as_slice(),
-        number,
-        place,
-    )
+fn bad(rt: &impl AllocGlobal, records: &[Words], number: u8, place: usize) -> Result<(), Fail> {
+    refused(&unit(rt.alloc(), records, &WHOLE, 0)?, number, place)
 }
 
 #[test]
@@ -61,53 +43,46 @@ fn nesting(rt: HostRuntime) -> Result<(), Fail> {
     bad(&rt, &[IF, IF, END], 8, 3)
 }
 
-/// So many conditionals, one inside the other, or one behind the other.
-fn deep(heap: Global, depth: usize) -> Result<Vec<(u16, u16)>, AllocError> {
-    let mut records = Vec::new(heap);
-    for _ in 0..depth {
-        records.push(IF)?;
-    }
-    for _ in 0..depth {
-        records.push(END)?;
-    }
+/// So many conditionals, one inside the other.
+fn deep(alloc: Global, depth: usize) -> Result<Vec<Words>, AllocError> {
+    let mut records = vec![in alloc; IF; depth]?;
+    records.extend(repeat_n(END, depth))?;
     Ok(records)
 }
 
-fn flat(heap: Global, conditionals: usize, elifs: usize) -> Result<Vec<(u16, u16)>, AllocError> {
-    let mut records = Vec::new(heap);
+/// So many conditionals, one behind the other, each of so many elifs.
+fn flat(alloc: Global, conditionals: usize, elifs: usize) -> Result<Vec<Words>, AllocError> {
+    let mut records = Vec::new(alloc);
     for _ in 0..conditionals {
         records.push(IF)?;
-        for _ in 0..elifs {
-            records.push(ELIF)?;
-        }
-        records.push(ELSE)?;
-        records.push(END)?;
+        records.extend(repeat_n(ELIF, elifs))?;
+        records.extend_from_slice(&[ELSE, END])?;
     }
     Ok(records)
 }
 
 #[test]
 fn depth(rt: HostRuntime) -> Result<(), Fail> {
-    fine(&rt, deep(rt.alloc(), 64)?.as_slice())?;
-    bad(&rt, deep(rt.alloc(), 65)?.as_slice(), 8, 64)
+    fine(&rt, &deep(rt.alloc(), 64)?)?;
+    bad(&rt, &deep(rt.alloc(), 65)?, 8, 64)
 }
 
 #[test]
 fn branches(rt: HostRuntime) -> Result<(), Fail> {
-    fine(&rt, flat(rt.alloc(), 64, 2)?.as_slice())?;
-    fine(&rt, flat(rt.alloc(), 1, 254)?.as_slice())?;
-    bad(&rt, flat(rt.alloc(), 65, 2)?.as_slice(), 10, 320)?;
-    bad(&rt, flat(rt.alloc(), 1, 255)?.as_slice(), 10, 256)?;
-    bad(&rt, flat(rt.alloc(), 1, 256)?.as_slice(), 10, 256)
+    fine(&rt, &flat(rt.alloc(), 64, 2)?)?;
+    fine(&rt, &flat(rt.alloc(), 1, 254)?)?;
+    bad(&rt, &flat(rt.alloc(), 65, 2)?, 10, 320)?;
+    bad(&rt, &flat(rt.alloc(), 1, 255)?, 10, 256)?;
+    bad(&rt, &flat(rt.alloc(), 1, 256)?, 10, 256)
 }
 
 /// A conditional with this guard, where there are two switches.
 fn valid(rt: &impl AllocGlobal, guard: &[u16]) -> Result<(), Fail> {
-    taken(unit(rt.alloc(), &[X, IF, END], guard, 2)?.as_slice())
+    taken(&unit(rt.alloc(), &[X, IF, END], guard, 2)?)
 }
 
 fn invalid(rt: &impl AllocGlobal, guard: &[u16]) -> Result<(), Fail> {
-    refused(unit(rt.alloc(), &[X, IF, END], guard, 2)?.as_slice(), 9, 1)
+    refused(&unit(rt.alloc(), &[X, IF, END], guard, 2)?, 9, 1)
 }
 
 #[test]
@@ -139,44 +114,35 @@ fn guard_operands(rt: HostRuntime) -> Result<(), Fail> {
 }
 
 /// So many operands, and then the words that join them into one.
-fn wide(heap: Global, operands: usize) -> Result<Vec<u16>, AllocError> {
-    let mut words = Vec::new(heap);
-    for _ in 0..operands {
-        words.push(1)?;
-    }
-    for _ in 1..operands {
-        words.push(102)?;
-    }
+fn wide(alloc: Global, operands: usize) -> Result<Vec<u16>, AllocError> {
+    let mut words = vec![in alloc; 1; operands]?;
+    words.extend(repeat_n(102, operands.saturating_sub(1)))?;
     words.push(0)?;
     Ok(words)
 }
 
 #[test]
 fn held_operands(rt: HostRuntime) -> Result<(), Fail> {
-    valid(&rt, wide(rt.alloc(), 16)?.as_slice())?;
-    invalid(&rt, wide(rt.alloc(), 17)?.as_slice())
+    valid(&rt, &wide(rt.alloc(), 16)?)?;
+    invalid(&rt, &wide(rt.alloc(), 17)?)
 }
 
 /// A guard may begin inside another, at the last word, and no later; an elif's guard counts like an if's.
 #[test]
 fn guard_places(rt: HostRuntime) -> Result<(), Fail> {
     let words = [1, 100, 0, 2, 0];
-    for (first, second, place) in [
-        (0, 3, 9),
-        (3, 0, 9),
-        (1, 0, 0),
-        (4, 0, 0),
-        (5, 0, 0),
-        (0, 1, 2),
-        (0, 4, 2),
-        (0, 65535, 2),
+    for (first, second, wanted) in [
+        (0, 3, None),
+        (3, 0, None),
+        (1, 0, Some((9, 0))),
+        (4, 0, Some((9, 0))),
+        (5, 0, Some((9, 0))),
+        (0, 1, Some((9, 2))),
+        (0, 4, Some((9, 2))),
+        (0, 65535, Some((9, 2))),
     ] {
-        let bytes = unit(rt.alloc(), &[(2, first), X, (3, second), END], &words, 2)?;
-        if place == 9 {
-            taken(bytes.as_slice())?;
-        } else {
-            refused(bytes.as_slice(), 9, place)?;
-        }
+        let records = [if_at(first), X, elif_at(second), END];
+        checked(&unit(rt.alloc(), &records, &words, 2)?, wanted)?;
     }
     Ok(())
 }
@@ -184,38 +150,19 @@ fn guard_places(rt: HostRuntime) -> Result<(), Fail> {
 /// Record by record, and in each record kind and value, nesting, guard, branches.
 #[test]
 fn the_first_is_told(rt: HostRuntime) -> Result<(), Fail> {
-    let none = [0];
-    refused(
-        unit(rt.alloc(), &[IF, END, END], &none, 0)?.as_slice(),
-        9,
-        0,
-    )?;
-    refused(unit(rt.alloc(), &[END, IF], &none, 0)?.as_slice(), 8, 0)?;
-    refused(
-        unit(rt.alloc(), &[ELIF, (9, 9)], &none, 0)?.as_slice(),
-        8,
-        0,
-    )?;
-    refused(unit(rt.alloc(), &[IF, (9, 9)], &none, 0)?.as_slice(), 9, 0)?;
+    for (records, number) in [
+        ([IF, END, END].as_slice(), 9),
+        (&[END, IF], 8),
+        (&[ELIF, (9, 9)], 8),
+        (&[IF, (9, 9)], 9),
+    ] {
+        refused(&unit(rt.alloc(), records, &[0], 0)?, number, 0)?;
+    }
     let mut records = flat(rt.alloc(), 1, 254)?;
-    records.push((2, 1))?;
-    refused(
-        unit(rt.alloc(), records.as_slice(), &WHOLE, 0)?.as_slice(),
-        9,
-        257,
-    )?;
-    let _ = records.pop();
-    records.push((4, 1))?;
-    refused(
-        unit(rt.alloc(), records.as_slice(), &WHOLE, 0)?.as_slice(),
-        7,
-        257,
-    )?;
-    let _ = records.pop();
-    records.push(IF)?;
-    refused(
-        unit(rt.alloc(), records.as_slice(), &WHOLE, 0)?.as_slice(),
-        10,
-        257,
-    )
+    for (last, number) in [(if_at(1), 9), ((4, 1), 7), (IF, 10)] {
+        records.push(last)?;
+        bad(&rt, &records, number, 257)?;
+        let _ = records.pop();
+    }
+    Ok(())
 }

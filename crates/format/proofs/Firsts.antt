@@ -1,6 +1,8 @@
 -- What `first_bad` finds.
-use Rattle.std.proofs.Common.{◌≡◌, ℕ, zero, suc, ◌<◌, ◌≤◌, Bool, true, false, Some, None, Option, sym, refl, ap, ⊎_elim, arith}
-use Rattle.std.proofs.lemmas.Bool.{cases_eq}
+use Rattle.std.proofs.Common.{◌≡◌, ℕ, zero, suc, ◌<◌, ◌≤◌, ◌⊎◌, Bool, true, false, not, List, length, get_or, position, Some, None, Option, sym, refl, ap, inl, inr, ⊎_elim, ◌∙◌, arith}
+use Rattle.std.specs.List.{position_or_len}
+use Rattle.std.proofs.lemmas.List.Sums.{fails_before_first, passes_at_first}
+use Rattle.std.proofs.lemmas.Bool.{cases_eq, cases_lt, le-ltb, lt-ltb, not-false, not-true}
 use Rattle.format.specs.Firsts.{first_bad, numbered_by, or_else, unless}
 
 -- where neither is there, neither part is
@@ -40,9 +42,19 @@ module _ (good : ℕ → Bool) where
       let here = unless-none (good n) n p.1 in
       ⊎_elim (λ same. rw same here) (λ ne. all_good n p.0 k (omega arith)) (cases_eq k n)
 
-  -- the two ends of a loop that looks for the first index at which the test fails
-  pub refuses_none : (number n i : ℕ) → n ≤ i → ((k : ℕ) → k < i → good k ≡ true) → None ≡ numbered_by number (first_bad good n)
-  refuses_none number n i h all = sym (ap (numbered_by number) (first_bad-none n (λ k l. all k (omega arith))))
+-- where the items of a list stand for the indices, the first item that fails a test is at the first index that is bad
+pub first_bad-position : {X : Type 0} (good : ℕ → Bool) (test : X → Bool) (xs : List X) (d : X) → ((i : ℕ) → i < length xs → test (get_or xs i d) ≡ good i) → first_bad good (length xs) ≡ position (λ x. not (test x)) xs
+first_bad-position {X} good test xs d same = by (cases_lt at (length xs))
+  where
+    bad : X → Bool
+    bad x = not (test x)
 
-  pub refuses_at : (number n i : ℕ) → i < n → ((k : ℕ) → k < i → good k ≡ true) → good i ≡ false → Some (number, i) ≡ numbered_by number (first_bad good n)
-  refuses_at number n i h all bad = sym (ap (numbered_by number) (first_bad-some n i h all bad))
+    at : ℕ
+    at = position_or_len bad xs
+
+    passes : (upto : ℕ) → upto ≤ at → upto ≤ length xs → (i : ℕ) → i < upto → good i ≡ true
+    passes upto h l i k = sym (same i (omega arith)) ∙ not-false (test (get_or xs i d)) (fails_before_first bad xs i d (omega arith))
+
+    by : (at < length xs) ⊎ (length xs ≤ at) → first_bad good (length xs) ≡ position bad xs
+    by (inl h) = rw (lt-ltb at (length xs) h) (first_bad-some good (length xs) at h (passes at (omega arith) (omega arith)) (sym (same at h) ∙ not-true (test (get_or xs at d)) (passes_at_first bad xs d h)))
+    by (inr h) = rw (le-ltb at (length xs) h) (first_bad-none good (length xs) (passes (length xs) h (omega arith)))

@@ -1,3 +1,4 @@
 pub mod Firsts
 pub mod Counted
 pub mod Limits
+pub mod Chunks

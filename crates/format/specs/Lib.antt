@@ -2,3 +2,4 @@ pub mod Words
 pub mod Firsts
 pub mod Refusals
 pub mod Heads
+pub mod Parts

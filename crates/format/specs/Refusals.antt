@@ -15,7 +15,11 @@ numbered (Nesting at) = (8, at)
 numbered (Guard at) = (9, at)
 numbered (Branch at) = (10, at)
 
+-- what a call refused, if it did, where errors are numbered so
+abbrev pub refused_by : {X E : Type 0} → (E → ℕ × ℕ) → Result X E → Option (ℕ × ℕ)
+refused_by numbering (Ok x) = None
+refused_by numbering (Err e) = Some (numbering e)
+
 -- what a check refused, if it did
 abbrev pub refusal_in : {X : Type 0} → Result X Refusal → Option (ℕ × ℕ)
-refusal_in (Ok x) = None
-refusal_in (Err e) = Some (numbered e)
+refusal_in r = refused_by numbered r

@@ -2,9 +2,11 @@
 #![tactic(auto)]
 
 mod heads;
+mod numbered;
 mod refusals;
 mod words;
 
-pub use heads::{Counts, Head, Span, read_head};
+pub use heads::{Counts, Head, read_head};
+pub use numbered::{Numbered, told};
 pub use refusals::Refusal;
-pub use words::u16_at;
+pub use words::{number_of, row_at, word_at, words_in, words_of};

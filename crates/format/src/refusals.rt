@@ -1,6 +1,7 @@
 //! Why bytes are no delivery.
-ghost use Rattle.std.specs.Prelude.{◌≡◌};
-ghost use Rattle.format.specs.Refusals.{numbered};
+use crate::numbered::Numbered;
+use std::error::Error;
+use std::fmt;
 
 /// The first rule that the bytes break, and the place where they break it.
 #[derive(Clone, Copy, Debug, PartialEq, Eq)]
@@ -27,11 +28,12 @@ pub enum Refusal {
     Branch(usize),
 }
 
-impl Refusal {
-    /// The number by which the refusal is known.
-    pub fn number(self) -> u8
-        ensures { result ≡ (numbered self).0 }
-    {
+impl Numbered for Refusal {
+    ghost use Rattle.format.specs.Refusals.{numbered};
+
+    ghost numbered = { numbered };
+
+    fn number(self) -> u8 {
         match self {
             Refusal::Short(_) => 1,
             Refusal::Count(_) => 2,
@@ -46,10 +48,7 @@ impl Refusal {
         }
     }
 
-    /// Where the rule is broken: a length, a byte, an index or a record, as the case says.
-    pub fn place(self) -> usize
-        ensures { result ≡ (numbered self).1 }
-    {
+    fn place(self) -> usize {
         match self {
             Refusal::Short(at)
             | Refusal::Count(at)
@@ -64,3 +63,22 @@ impl Refusal {
         }
     }
 }
+
+impl fmt::Display for Refusal {
+    fn fmt<W: fmt::Write>(&self, f: &mut fmt::Formatter<W>) -> fmt::Result {
+        match self {
+            Refusal::Short(len) => write!(f, "{len} bytes are too few for a head"),
+            Refusal::Count(at) => write!(f, "the count at byte {at} is outside its limits"),
+            Refusal::Pair(at) => write!(f, "the part whose pair is at byte {at} is misplaced"),
+            Refusal::Action(i) => write!(f, "action word {i} is not allowed"),
+            Refusal::Goto(i) => write!(f, "goto word {i} is not allowed"),
+            Refusal::Production(i) => write!(f, "production {i} is not allowed"),
+            Refusal::Record(i) => write!(f, "record {i} is not allowed"),
+            Refusal::Nesting(i) => write!(f, "the conditionals are not well nested at record {i}"),
+            Refusal::Guard(i) => write!(f, "the guard of record {i} is not valid"),
+            Refusal::Branch(i) => write!(f, "record {i} begins a branch too many"),
+        }
+    }
+}
+
+impl Error for Refusal {}

@@ -1,6 +1,7 @@
 -- In a checked delivery no more than 64 branches are around any place.
-use Rattle.std.proofs.Common.{◌≡◌, ℕ, zero, suc, ◌≤◌, Bool, true, false, cond, ltb, List, [], ◌∷◌, length, take, Some, None, refl, ap, ◌∙◌, subst, arith}
+use Rattle.std.proofs.Common.{◌≡◌, ℕ, zero, suc, ◌≤◌, Bool, true, false, ltb, List, [], ◌∷◌, length, take, Some, refl, arith}
 use Rattle.std.proofs.lemmas.Bool.Decides.{nat_tests}
+use Rattle.std.proofs.lemmas.Option.{cond_some}
 use Rattle.units.specs.declared.records.Record.{Record}
 use Rattle.units.specs.declared.records.Record.TheVariants.{Token, If, Elif, Else, End}
 use Rattle.units.specs.Scans.{nested}
@@ -10,26 +11,19 @@ use Rattle.plain.specs.Branches.{Branch, around, behind, behind_all}
 
 -- a record opens and ends as many branches as conditionals
 depth_behind : (r : Record) (os os' : List Bool) (bs : List Branch) → length bs ≡ length os → length os ≤ 64 → nested r os ≡ Some os' → (length (behind r bs) ≡ length os') × (length os' ≤ 64)
-depth_behind (Token t) os os' bs e h q = let s : os ≡ os' = cc in (e ∙ ap length s, subst (λ xs. length xs ≤ 64) s h)
-depth_behind (If g) os os' bs e h q = go (ltb (length os) 64) refl q
-  where
-    go : (b : Bool) → ltb (length os) 64 ≡ b → cond b (Some (false ∷ os)) None ≡ Some os' → (suc (length bs) ≡ length os') × (length os' ≤ 64)
-    go true t c = let s : (false ∷ os) ≡ os' = cc in (ap suc e ∙ ap length s, subst (λ xs. length xs ≤ 64) s (grind (arith, nat_tests)))
-    go false t c = absurd (let no : ◌≡◌ {A = ℕ} 0 1 = cc in omega arith)
-depth_behind (Elif g) [] os' bs e h q = absurd (let no : ◌≡◌ {A = ℕ} 0 1 = cc in omega arith)
-depth_behind (Elif g) (true ∷ os) os' bs e h q = absurd (let no : ◌≡◌ {A = ℕ} 0 1 = cc in omega arith)
-depth_behind (Elif g) (false ∷ os) os' [] e h q = absurd (omega arith)
-depth_behind (Elif g) (false ∷ os) os' (b ∷ bs) e h q = let s : (false ∷ os) ≡ os' = cc in (e ∙ ap length s, subst (λ xs. length xs ≤ 64) s h)
-depth_behind Else [] os' bs e h q = absurd (let no : ◌≡◌ {A = ℕ} 0 1 = cc in omega arith)
-depth_behind Else (true ∷ os) os' bs e h q = absurd (let no : ◌≡◌ {A = ℕ} 0 1 = cc in omega arith)
-depth_behind Else (false ∷ os) os' [] e h q = absurd (omega arith)
-depth_behind Else (false ∷ os) os' (b ∷ bs) e h q = let s : (true ∷ os) ≡ os' = cc in (e ∙ ap length s, subst (λ xs. length xs ≤ 64) s h)
-depth_behind End [] os' bs e h q = absurd (let no : ◌≡◌ {A = ℕ} 0 1 = cc in omega arith)
-depth_behind End (o ∷ os) os' [] e h q = absurd (omega arith)
-depth_behind End (o ∷ os) os' (b ∷ bs) e h q =
-    let s : os ≡ os' = cc in
-    let l : length bs ≡ length os = omega arith in
-    (l ∙ ap length s, subst (λ xs. length xs ≤ 64) s (omega arith))
+depth_behind (Token t) os os' bs e h q = (grind arith, grind arith)
+depth_behind (If g) os os' bs e h q = let s = cond_some (ltb (length os) 64) (false ∷ os) os' q in (grind arith, grind (arith, nat_tests))
+depth_behind (Elif g) [] os' bs e h q = grind arith
+depth_behind (Elif g) (true ∷ os) os' bs e h q = grind arith
+depth_behind (Elif g) (false ∷ os) os' [] e h q = grind arith
+depth_behind (Elif g) (false ∷ os) os' (b ∷ bs) e h q = (grind arith, grind arith)
+depth_behind Else [] os' bs e h q = grind arith
+depth_behind Else (true ∷ os) os' bs e h q = grind arith
+depth_behind Else (false ∷ os) os' [] e h q = grind arith
+depth_behind Else (false ∷ os) os' (b ∷ bs) e h q = (grind arith, grind arith)
+depth_behind End [] os' bs e h q = grind arith
+depth_behind End (o ∷ os) os' [] e h q = grind arith
+depth_behind End (o ∷ os) os' (b ∷ bs) e h q = (grind arith, grind arith)
 
 depth : (rs : List Record) (os : List Bool) (bs : List Branch) → length bs ≡ length os → length os ≤ 64 → WellNested os rs → (p : ℕ) → length (behind_all bs (take p rs)) ≤ 64
 depth rs os bs e h w zero = omega arith

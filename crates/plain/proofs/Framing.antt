@@ -1,19 +1,11 @@
 -- The frames that the reader holds are those of the branches around its place.
-use Rattle.std.proofs.Common.{◌≡◌, ℕ, suc, Bool, true, false, ◌&&◌, ◌||◌, List, [], ◌∷◌, length, sym, refl, ap}
+use Rattle.std.proofs.Common.{◌≡◌, ℕ, suc, List, [], ◌∷◌, length, refl, ap, arith}
+use Rattle.std.proofs.Math.Bool.{and-true, or-false}
 use Rattle.units.specs.declared.records.Record.{Record}
 use Rattle.units.specs.declared.records.Record.TheVariants.{Token, If, Elif, Else, End}
 use Rattle.delivery.specs.Model.{Model}
 use Rattle.plain.specs.Branches.{Branch, behind, has}
 use Rattle.plain.specs.Frames.{framed, frames_of, has_innermost}
-use Rattle.plain.specs.Guards.{holds}
-
-or_false : (b : Bool) → (b || false) ≡ b
-or_false true = refl
-or_false false = refl
-
-and_true : (b : Bool) → (b && true) ≡ b
-and_true true = refl
-and_true false = refl
 
 module _ (m : Model) (k : ℕ) where
   pub innermost_has : (bs : List Branch) → has_innermost (frames_of m k bs) ≡ has m k bs
@@ -26,8 +18,7 @@ module _ (m : Model) (k : ℕ) where
 
   pub framed_behind : (r : Record) (bs : List Branch) → framed m k r (frames_of m k bs) ≡ frames_of m k (behind r bs)
   framed_behind (Token t) bs = refl
-  framed_behind (If g) bs =
-      λ i. record { around = innermost_has bs i; taken = sym (or_false (holds m k g)) i; here = sym (and_true (holds m k g)) i && innermost_has bs i } ∷ frames_of m k bs
+  framed_behind (If g) bs = grind (arith, innermost_has bs, or-false, and-true)
   framed_behind (Elif g) [] = refl
   framed_behind (Elif g) (b ∷ bs) = refl
   framed_behind Else [] = refl

@@ -1,7 +1,7 @@
 pub mod Evaluated
 pub mod Framing
 pub mod Depth
-pub mod Seeking
-pub mod Ranges
+pub mod Walking
 pub mod Stepping
 pub mod Parsing
+pub mod Passing

@@ -12,9 +12,15 @@ abbrev pub has_innermost : List Frame → Bool
 has_innermost [] = true
 has_innermost (f ∷ fs) = f.here
 
+-- the frame at a conditional's first branch, from whether the configuration has what encloses it and whether the guard holds
+abbrev pub first : Bool → Bool → Frame
+first a g = record { around = a; taken = g; here = g && a }
+
+-- at a later branch, from whether its guard holds
 abbrev pub later : Frame → Bool → Frame
 later f g = record { around = f.around; taken = g || f.taken; here = (g && not f.taken) && f.around }
 
+-- at the branch that has no guard
 abbrev pub last : Frame → Frame
 last f = record { around = f.around; taken = f.taken; here = not f.taken && f.around }
 
@@ -22,7 +28,7 @@ module _ (m : Model) (k : ℕ) where
   -- the frames behind a record
   abbrev pub framed : Record → List Frame → List Frame
   framed (Token t) fs = fs
-  framed (If g) fs = record { around = has_innermost fs; taken = holds m k g; here = holds m k g && has_innermost fs } ∷ fs
+  framed (If g) fs = first (has_innermost fs) (holds m k g) ∷ fs
   framed (Elif g) [] = []
   framed (Elif g) (f ∷ fs) = later f (holds m k g) ∷ fs
   framed Else [] = []

@@ -7,4 +7,7 @@ pub mod Examples
 pub mod Acts
 pub mod Frames
 pub mod Places
+pub mod Tokens
+pub mod Walks
 pub mod Standing
+pub mod Readers

@@ -3,13 +3,10 @@ use Rattle.std.specs.Prelude.{ℕ, zero, suc, ◌+◌, cond, ◌&&◌, List, [],
 use Rattle.units.specs.declared.records.Record.{Record}
 use Rattle.delivery.specs.Model.{Model}
 use Rattle.plain.specs.declared.automaton.Reason.{Reason}
+use Rattle.plain.specs.declared.tokens.Token.{Token}
 use Rattle.plain.specs.Automaton.{Outcome, shifts, reduces, accepts, fails, outcome}
 use Rattle.plain.specs.Branches.{Branch, behind, has, is_token}
 use Rattle.plain.specs.Readings.{terminal_of}
-
-pub record Token : Type 0 where
-  pub place : ℕ
-  pub terminal : ℕ
 
 -- where a parser is: with these tokens ahead and this stack, or it has just accepted or failed at a place, or it was over before
 pub data Parser : Type 0 where

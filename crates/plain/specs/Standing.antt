@@ -1,19 +1,19 @@
--- Where the code's reader stands.
-use Rattle.std.specs.Prelude.{◌≡◌, ℕ, ◌+◌, ◌≤◌, Bool, true, false, List, length, Some, None, Ok, Err, Option, Result}
-use Rattle.stacks.specs.Views.{items_of}
+-- What is told of a configuration's reading.
+use Rattle.std.specs.Prelude.{◌≡◌, ℕ, ◌+◌, ◌^◌, ◌≤◌, Bool, true, false, List, length, Option, Result, nat_lt}
+use Rattle.format.specs.Firsts.{unless}
+use Rattle.format.specs.Refusals.{refused_by}
 use Rattle.delivery.specs.Model.{Model}
+use Rattle.plain.specs.declared.configuration.Fault.{Fault}
+use Rattle.plain.specs.declared.configuration.Fault.TheVariants.{OutOfRange}
+use Rattle.plain.specs.declared.tokens.Token.{Token}
 use Rattle.plain.specs.declared.reader.Ending.{Ending}
 use Rattle.plain.specs.declared.reader.Ending.TheVariants as ending
-use Rattle.plain.specs.declared.reader.Fault.{Fault}
-use Rattle.plain.specs.declared.reader.Fault.TheVariants.{OutOfRange}
-use Rattle.plain.specs.declared.reader.Reader.{Reader}
 use Rattle.plain.specs.declared.reader.Report.{Report}
 use Rattle.plain.specs.declared.reader.Status.{Status}
 use Rattle.plain.specs.declared.reader.Status.TheVariants.{Standing, Accepted, Failed}
 use Rattle.plain.specs.Branches.{token_count}
 use Rattle.plain.specs.Parser as parser
-use Rattle.plain.specs.Parser.{Token, parsed, tokens}
-use Rattle.plain.specs.Places.{At}
+use Rattle.plain.specs.Parser.{parsed, tokens}
 use Rattle.plain.specs.Readings.{Reading, standing, accepted, failed, reading}
 
 abbrev pub is_standing : Status → Bool
@@ -26,30 +26,22 @@ shown_as Standing p stack = standing p stack
 shown_as Accepted p stack = accepted
 shown_as (Failed r) p stack = failed p r
 
--- the reading that a reader shows
-abbrev pub shown : Reader → Reading
-shown r = shown_as r.status r.cursor.place (items_of r.stack)
-
--- a reader stands where its configuration's reading is after j actions
-pub record Stands (m : Model) (j : ℕ) (r : Reader) : Type 0 where
-  pub shows : reading m r.configuration j ≡ shown r
-  pub at : At m r.configuration r.cursor.place (items_of r.cursor.frames)
-
 abbrev pub ending_as : Status → ℕ → Ending
 ending_as Standing p = ending.Spent
 ending_as Accepted p = ending.Accepted
 ending_as (Failed r) p = ending.Failed p r
 
-abbrev pub ending_of : Reader → Ending
-ending_of r = ending_as r.status r.cursor.place
-
 -- a fault as its number and its place
 abbrev pub numbered : Fault → ℕ × ℕ
 numbered OutOfRange = (22, 0)
 
+-- why configuration k is not read, if it is not
+abbrev pub fault_of : Model → ℕ → Option (ℕ × ℕ)
+fault_of m k = unless (nat_lt k (2 ^ m.switches)) (22, 0)
+
+-- what a call refused, if it did
 abbrev pub fault_in : {X : Type 0} → Result X Fault → Option (ℕ × ℕ)
-fault_in (Ok x) = None
-fault_in (Err e) = Some (numbered e)
+fault_in r = refused_by numbered r
 
 -- configuration k's reading has just ended so after so many actions, or it is not over yet and all the budget is spent
 abbrev pub Ends : Model → ℕ → ℕ → ℕ → Ending → Type 0

@@ -2,10 +2,13 @@
 #![tactic(auto)]
 
 mod automaton;
-mod cursor;
+mod configuration;
 mod frame;
 mod guards;
 mod reader;
+mod tokens;
 
-pub use automaton::{Outcome, Reason, act};
-pub use reader::{Ending, Fault, Reader, Report, Status, read};
+pub use automaton::{Move, Reason, act};
+pub use configuration::Fault;
+pub use delivery::Numbered;
+pub use reader::{Ending, Reader, Report, Status, read};

@@ -1,15 +1,9 @@
 //! Which tokens a configuration has. The tables have no action, so that a reading fails at its first token.
-use delivery::check as check_delivery;
-use plain::{Ending, Reader, Status, read};
-use samples::unit;
+use delivery::check;
+use plain::{Ending, Reader, Reason, Status, read};
+use samples::{ELSE, END, Words, X, elif_at, if_at, unit};
 use std::process::Abort;
 use std::test::Fail;
-
-const X: (u16, u16) = (1, 1);
-
-const ELSE: (u16, u16) = (4, 0);
-
-const END: (u16, u16) = (5, 0);
 
 /// Switch 0; both switches; switch 1 but not switch 0; nothing.
 const GUARDS: [u16; 13] = [1, 0, 1, 2, 101, 0, 2, 1, 100, 101, 0, 104, 0];
@@ -25,24 +19,19 @@ const NEVER: u16 = 11;
 /// How many tokens each configuration of two switches has, and the place of its first one.
 fn has(
     rt: &(impl Abort + AllocGlobal),
-    records: &[(u16, u16)],
-    counts: [usize; 4],
-    places: [usize; 4],
+    records: &[Words],
+    wanted: [(usize, usize); 4],
 ) -> Result<(), Fail> {
     let bytes = unit(rt.alloc(), records, &GUARDS, 2)?;
-    let Ok(parts) = check_delivery(bytes.as_slice()) else {
-        return Err(Fail::new("the delivery is refused"));
-    };
-    let delivery = parts.seal();
-    for k in 0..4u32 {
-        let Ok(report) = read(&delivery, k, 10) else {
-            return Err(Fail::new("the configuration is refused"));
-        };
-        assert_eq!(rt; report.tokens, counts[k as usize]);
-        let Ending::Failed(place, _) = report.ending else {
-            return Err(Fail::new("the reading did not fail"));
-        };
-        assert_eq!(rt; place, places[k as usize]);
+    let delivery = check(&bytes)?;
+    for (k, (tokens, place)) in (0..).zip(wanted) {
+        let report = read(&delivery, k, 10)?;
+        assert_eq!(rt; report.tokens, tokens, "in configuration {k}");
+        assert_eq!(rt;
+            report.ending,
+            Ending::Failed(place, Reason::NoAction),
+            "in configuration {k}"
+        );
     }
     Ok(())
 }
@@ -52,21 +41,27 @@ fn has(
 fn one_branch_is_had(rt: HostRuntime) -> Result<(), Fail> {
     has(
         &rt,
-        &[(2, FIRST), X, (3, BOTH), X, ELSE, X, END],
-        [1, 1, 1, 1],
-        [5, 1, 5, 1],
+        &[if_at(FIRST), X, elif_at(BOTH), X, ELSE, X, END],
+        [(1, 5), (1, 1), (1, 5), (1, 1)],
     )?;
     has(
         &rt,
-        &[(2, BOTH), X, (3, FIRST), X, X, ELSE, END],
-        [0, 2, 0, 1],
-        [7, 3, 7, 1],
+        &[if_at(BOTH), X, elif_at(FIRST), X, X, ELSE, END],
+        [(0, 7), (2, 3), (0, 7), (1, 1)],
     )?;
     has(
         &rt,
-        &[(2, NEVER), X, (3, NEVER), X, (3, SECOND_ALONE), X, END, X],
-        [1, 1, 2, 1],
-        [7, 7, 5, 7],
+        &[
+            if_at(NEVER),
+            X,
+            elif_at(NEVER),
+            X,
+            elif_at(SECOND_ALONE),
+            X,
+            END,
+            X,
+        ],
+        [(1, 7), (1, 7), (2, 5), (1, 7)],
     )
 }
 
@@ -76,49 +71,42 @@ fn what_encloses_counts(rt: HostRuntime) -> Result<(), Fail> {
     has(
         &rt,
         &[
-            (2, FIRST),
-            (2, BOTH),
+            if_at(FIRST),
+            if_at(BOTH),
             X,
             ELSE,
             X,
             END,
             ELSE,
-            (2, FIRST),
+            if_at(FIRST),
             X,
             ELSE,
             X,
             END,
             END,
         ],
-        [1, 1, 1, 1],
-        [10, 4, 10, 2],
+        [(1, 10), (1, 4), (1, 10), (1, 2)],
     )?;
     has(
         &rt,
-        &[(2, NEVER), (2, FIRST), X, ELSE, X, END, END],
-        [0, 0, 0, 0],
-        [7, 7, 7, 7],
+        &[if_at(NEVER), if_at(FIRST), X, ELSE, X, END, END],
+        [(0, 7), (0, 7), (0, 7), (0, 7)],
     )
 }
 
 /// A reader goes one action at a time, and stays where its reading ended.
 #[test]
 fn a_reader_steps(rt: HostRuntime) -> Result<(), Fail> {
-    let bytes = unit(rt.alloc(), &[(2, FIRST), X, END, X], &GUARDS, 2)?;
-    let Ok(parts) = check_delivery(bytes.as_slice()) else {
-        return Err(Fail::new("the delivery is refused"));
-    };
-    let delivery = parts.seal();
-    let Ok(mut reader) = Reader::new(&delivery, 2) else {
-        return Err(Fail::new("the configuration is refused"));
-    };
+    let bytes = unit(rt.alloc(), &[if_at(FIRST), X, END, X], &GUARDS, 2)?;
+    let delivery = check(&bytes)?;
+    let mut reader = Reader::new(&delivery, 2)?;
     assert_eq!(rt; reader.place(), 3);
-    assert!(rt; matches!(reader.status(), Status::Standing));
-    assert_eq!(rt; reader.run(&delivery, 0), 0);
-    assert!(rt; reader.step(&delivery));
-    assert!(rt; matches!(reader.status(), Status::Failed(_)));
-    assert!(rt; !reader.step(&delivery));
-    assert_eq!(rt; reader.run(&delivery, 5), 0);
+    assert_eq!(rt; reader.status(), Status::Standing);
+    assert_eq!(rt; reader.run(0), 0);
+    assert!(rt; reader.step());
+    assert_eq!(rt; reader.status(), Status::Failed(Reason::NoAction));
+    assert!(rt; !reader.step());
+    assert_eq!(rt; reader.run(5), 0);
     assert_eq!(rt; reader.place(), 3);
     assert!(rt; Reader::new(&delivery, 4).is_err());
     Ok(())

@@ -1,17 +1,15 @@
 //! Reads one configuration of the delivery on standard input: `read_one K < DELIVERY`.
 #![tactic(auto)]
 
-use answers::{LONGEST, answer_for, number_in, text_of};
+use answers::{LONGEST, answer_for, number_in};
 use std::io::Read;
+use std::rt::Env;
 use std::{env, io};
 
 /// The configuration that the arguments ask for, where they are one decimal number.
-fn asked(rt: &HostRuntime) -> io::Result<Option<u32>> {
-    let mut args = env::args(rt)?;
-    let _ = args.next();
-    let first = args.next();
-    let second = args.next();
-    match (first, second) {
+fn asked(rt: &(impl Env + AllocGlobal)) -> io::Result<Option<u32>> {
+    let mut args = env::args(rt)?.skip(1);
+    match (args.next(), args.next()) {
         (Some(text), None) => Ok(number_in(text.as_bytes())),
         _ => Ok(None),
     }
@@ -22,11 +20,12 @@ fn main(rt: HostRuntime) -> io::Result<()> {
         eprintln!(rt;
             "usage: read_one K < DELIVERY\nK is the number of a configuration, in decimal."
         )?;
-        return Err(io::Error::from(io::ErrorKind::InvalidInput));
+        return Err(io::ErrorKind::InvalidInput.into());
     };
-    let heap = rt.alloc();
-    let mut bytes = Vec::new(heap);
+    let mut bytes = Vec::new(rt.alloc());
     rt.stdin().take(LONGEST as u64 + 1).read_to_end(&mut bytes)?;
-    let text = text_of(heap, answer_for(bytes.as_slice(), configuration))?;
-    println!(rt; "{text}")
+    match answer_for(&bytes, configuration) {
+        Ok(reading) => println!(rt; "{reading}"),
+        Err(refused) => println!(rt; "{refused}"),
+    }
 }

@@ -1,13 +1,13 @@
 //! Stacks in fixed memory.
 #![tactic(auto)]
 
-ghost use Rattle.std.specs.Prelude.{◌≡◌, [], ◌∷◌, length, drop, if◌then◌else◌, nat_lt};
+ghost use Rattle.std.specs.Prelude.{◌≡◌, [], ◌∷◌, length, drop, ◌==◌, is_ok, nat_lt, OnOk, OnErr};
 ghost use Rattle.std.specs.List.{slice_get};
 ghost use Rattle.stacks.specs.Views.{items_of};
 
 mod stack;
 
-pub use stack::Stack;
+pub use stack::{Full, Stack};
 
 impl<T: Copy, const N: usize> Stack<T, N> {
     /// No item; the memory holds `filler`.
@@ -26,14 +26,17 @@ impl<T: Copy, const N: usize> Stack<T, N> {
         self.len
     }
 
+    pub fn is_empty(&self) -> bool
+        ensures { result ≡ (length (items_of self.now) == 0) }
+    {
+        self.len == 0
+    }
+
     /// The item that was pushed last.
     pub fn top(&self) -> Option<T>
         ensures { result ≡ slice_get (items_of self.now) 0 }
     {
-        if self.len == 0 {
-            return None;
-        }
-        Some(self.items[self.len - 1])
+        self.items[..self.len].last().copied()
     }
 
     /// Takes off the item that was pushed last.
@@ -46,20 +49,22 @@ impl<T: Copy, const N: usize> Stack<T, N> {
         item
     }
 
-    /// One item more, or false where the stack is full.
-    pub fn push(&mut self, item: T) -> bool
-        ensures room { result ≡ nat_lt (length (items_of self.old)) N }
-        ensures after { items_of self.new ≡ (if result then item ∷ items_of self.old else items_of self.old) }
+    /// One item more, where there is room.
+    pub fn push(&mut self, item: T) -> Result<(), Full>
+        ensures room { is_ok result ≡ nat_lt (length (items_of self.old)) N }
+        ensures ok { OnOk result (items_of self.new ≡ item ∷ items_of self.old) }
+        ensures err { OnErr result (self.new ≡ self.old) }
     {
         if self.len >= N {
-            return false;
+            return Err(Full);
         }
         self.items[self.len] = item;
         self.len += 1;
-        true
+        Ok(())
     }
 
     /// Drops the `count` items that were pushed last, or all where there are fewer.
+    #[tactic(auto, using(crate::proofs::Stacks::stacked_behind))]
     pub fn cut(&mut self, count: usize)
         ensures { items_of self.new ≡ drop count (items_of self.old) }
     {

@@ -3,6 +3,10 @@ ghost use Rattle.std.specs.Prelude.{◌≡◌, ◌≤◌, length, ⊤};
 
 use std::alloc::AllocError;
 
+/// The stack holds as many items as it may.
+#[derive(Clone, Copy, Debug, PartialEq, Eq)]
+pub struct Full;
+
 /// The item that was pushed last stands at `len - 1`; what stands behind it counts for nothing.
 pub struct Stack<T, const N: usize> {
     pub(crate) items: [T; N],

@@ -1,3 +1,4 @@
 pub mod Actions
+pub mod Cells
 pub mod Gotos
 pub mod Productions

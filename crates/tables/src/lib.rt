@@ -4,7 +4,9 @@
 mod actions;
 mod gotos;
 mod productions;
+mod table;
 
 pub use actions::{Action, action_of, check_actions};
 pub use gotos::{check_gotos, goto_of};
 pub use productions::{Production, check_productions, production_of};
+pub use table::Table;

@@ -1,12 +1,21 @@
 -- The records of a part, one after the other.
-use Rattle.std.proofs.Common.{◌≡◌, ℕ, ◌+◌, ◌*◌, ◌<◌, ◌≤◌, eqb, List, ◌∷◌, length, get_or, drop, Some, None, Ok, Err, Option, sym, ap, ◌∙◌, zero-add}
+use Rattle.std.proofs.Common.{◌≡◌, ℕ, ◌+◌, ◌*◌, ◌<◌, ◌≤◌, eqb, List, [], ◌∷◌, length, get_or, drop, Some, None, Ok, Err, Option, sym, ap, ap₂, subst, ◌∙◌, zero-add, arith}
+use Rattle.std.specs.Simd.{first_chunks}
 use Rattle.std.proofs.lemmas.List.FromFn.{get_or-map-range_with_len, length-map-range_with_len}
 use Rattle.std.proofs.lemmas.List.{at_drop_all, at_drop_more}
 use Rattle.format.specs.Firsts.{unless}
 use Rattle.format.specs.Words.{u16_in}
+use Rattle.format.proofs.Chunks.{length-first_chunks, u16_in-row}
 use Rattle.units.specs.declared.records.Record.{Record}
 use Rattle.units.specs.Records.{record_of, records_in}
 use Rattle.units.specs.Scans.{State, and_on, passed, scanned}
+
+-- the record in a row of a part
+pub record_in : (part : List ℕ) (terminals k i : ℕ) (rows : List (List ℕ)) → rows ≡ first_chunks 4 k part → i < length rows → record_of terminals (u16_in (get_or rows i []) 0) (u16_in (get_or rows i []) 2) ≡ record_of terminals (u16_in part (4 * i)) (u16_in part (4 * i + 2))
+record_in part terminals k i rows e h =
+    let below : i < k = subst (λ n. i < n) (ap length e ∙ length-first_chunks 4 k part) h in
+    ap (λ ws. record_of terminals (u16_in (get_or ws i []) 0) (u16_in (get_or ws i []) 2)) e
+    ∙ ap₂ (record_of terminals) (u16_in-row 4 k i 0 (4 * i) part [] below (omega arith) (omega arith)) (u16_in-row 4 k i 2 (4 * i + 2) part [] below (omega arith) (omega arith))
 
 module _ (part : List ℕ) (terminals records : ℕ) where
   -- the record at index i

@@ -1,7 +1,5 @@
 -- What a guard's words say, and which guards are valid.
-use Rattle.std.specs.Prelude.{ℕ, ◌+◌, ◌-◌, ◌*◌, Bool, false, cond, ◌&&◌, List, [], ◌∷◌, map, Some, None, Option, ◌==◌, nat_le}
-use Rattle.std.specs.List.{range_with_len}
-use Rattle.format.specs.Words.{u16_in}
+use Rattle.std.specs.Prelude.{ℕ, ◌+◌, ◌-◌, Bool, false, cond, ◌&&◌, List, [], ◌∷◌, Some, None, Option, ◌==◌, nat_le}
 use Rattle.units.specs.declared.guards.Word.{Word}
 use Rattle.units.specs.declared.guards.Word.TheVariants.{Switch, Not, And, Or, Whole, Nothing}
 
@@ -39,6 +37,8 @@ guard_valid switches held [] = false
 guard_valid switches held (w ∷ ws) =
     cond (w == 0) (held == 1) (passes (word_of switches w) (λ word. passes (held_behind word held) (λ behind. guard_valid switches behind ws)))
 
--- the words of a part
-abbrev pub words_in : List ℕ → ℕ → List ℕ
-words_in part words = map (λ i. u16_in part (2 * i)) (range_with_len 0 words)
+-- the items in front of the first that is missing
+abbrev pub leading : {X : Type 0} → List (Option X) → List X
+leading [] = []
+leading (None ∷ xs) = []
+leading (Some x ∷ xs) = x ∷ leading xs

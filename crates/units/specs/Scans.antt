@@ -3,8 +3,9 @@ use Rattle.std.specs.Prelude.{ℕ, ◌+◌, Bool, true, false, cond, List, [], �
 use Rattle.format.specs.Firsts.{unless}
 use Rattle.units.specs.declared.records.Record.{Record}
 use Rattle.units.specs.declared.records.Record.TheVariants.{Token, If, Elif, Else, End}
-use Rattle.units.specs.Guards.{guard_valid, words_in}
+use Rattle.units.specs.Guards.{guard_valid}
 use Rattle.units.specs.Records.{records_in}
+use Rattle.format.specs.Words.{words_in}
 
 -- the conditionals open behind a record, or none where it may not stand there; each is known by whether its else has come, and the innermost is first
 abbrev pub nested : Record → List Bool → Option (List Bool)

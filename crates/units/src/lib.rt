@@ -5,6 +5,6 @@ mod guards;
 mod records;
 mod scans;
 
-pub use guards::{OPERANDS, Word, guard_valid, word_of};
+pub use guards::{Guard, Guards, OPERANDS, Word, word_of};
 pub use records::{Record, record_of};
 pub use scans::{NESTING, check_records};

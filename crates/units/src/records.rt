@@ -3,7 +3,7 @@ ghost use Rattle.std.specs.Prelude.{◌≡◌};
 ghost use Rattle.units.specs.Records.{record_of};
 
 /// One step through a unit.
-#[derive(Clone, Copy)]
+#[derive(Clone, Copy, Debug, PartialEq, Eq)]
 pub enum Record {
     /// A token of this terminal.
     Token(u16),
@@ -22,7 +22,7 @@ pub fn record_of(kind: u16, value: u16, terminals: usize) -> Option<Record>
     ensures { result ≡ record_of terminals kind value }
 {
     match kind {
-        1 if value != 0 && (value as usize) < terminals => Some(Record::Token(value)),
+        1 if value != 0 && usize::from(value) < terminals => Some(Record::Token(value)),
         2 => Some(Record::If(value)),
         3 => Some(Record::Elif(value)),
         4 if value == 0 => Some(Record::Else),

@@ -1,15 +1,15 @@
 //! The check of the records, from the first to the last.
-ghost use Rattle.std.specs.Prelude.{◌≡◌, ◌*◌, ◌≤◌, length, if◌then◌else◌, Some, None, OnOk};
+ghost use Rattle.std.specs.Prelude.{◌≡◌, ◌*◌, ◌≤◌, length, is_ok, if◌then◌else◌, Some, None};
 ghost use Rattle.format.specs.Refusals.{refusal_in};
 ghost use Rattle.stacks.specs.Views.{items_of};
-ghost use Rattle.units.specs.Guards.{words_in};
-ghost use Rattle.units.specs.Scans.{begun, guard_good, nested, passed, records_refusal};
-ghost use Rattle.units.specs.Views.{led_to, state_of};
+ghost use Rattle.units.specs.GuardWords.{numbers_of};
+ghost use Rattle.units.specs.Records.{records_in};
+ghost use Rattle.units.specs.Scans.{begin, begun, guard_good, nested, passed, scanned};
 
-use crate::guards::guard_valid;
+use crate::guards::Guards;
 use crate::records::{Record, record_of};
-use format::{Counts, Refusal, u16_at};
-use stacks::Stack;
+use format::{Counts, Refusal, words_of};
+use stacks::{Full, Stack};
 
 /// The most conditionals that may be open at once.
 pub const NESTING: usize = 64;
@@ -17,51 +17,56 @@ pub const NESTING: usize = 64;
 /// The most branches that a unit may have.
 const BRANCHES: usize = 256;
 
+/// A record may not stand where it does.
+#[derive(Clone, Copy, Debug, PartialEq, Eq)]
+struct Misplaced;
+
+impl From<Full> for Misplaced {
+    fn from(_full: Full) -> Misplaced {
+        Misplaced
+    }
+}
+
 /// How far the check has come.
 #[derive(Drop)]
 struct Scan {
     /// Whether the else of each open conditional has come, the innermost on top.
     nesting: Stack<bool, NESTING>,
     branches: usize,
+    ghost few: { branches ≤ 256 },
 }
 
-/// Notes what the record opens and ends, or answers false where it may not stand there.
-fn nest(nesting: &mut Stack<bool, NESTING>, record: Record) -> bool
-    ensures { nested «record» (items_of nesting.old) ≡ (if result then Some (items_of nesting.new) else None) }
+/// Notes what the record opens and ends.
+fn nest(nesting: &mut Stack<bool, NESTING>, record: Record) -> Result<(), Misplaced>
+    ensures { nested «record» (items_of nesting.old) ≡ (if is_ok result then Some (items_of nesting.new) else None) }
 {
     match record {
-        Record::Token(_) => true,
-        Record::If(_) => nesting.push(false),
-        Record::Elif(_) => matches!(nesting.top(), Some(false)),
+        Record::Token(_) => {}
+        Record::If(_) => nesting.push(false)?,
+        Record::Elif(_) => {
+            if nesting.top() != Some(false) {
+                return Err(Misplaced);
+            }
+        }
         Record::Else => {
-            let Some(false) = nesting.top() else {
-                return false;
-            };
-            nesting.cut(1);
-            nesting.push(true)
+            if nesting.pop() != Some(false) {
+                return Err(Misplaced);
+            }
+            nesting.push(true)?;
         }
         Record::End => {
-            if nesting.len() == 0 {
-                return false;
-            }
-            nesting.cut(1);
-            true
+            nesting.pop().ok_or(Misplaced)?;
         }
     }
+    Ok(())
 }
 
 /// Whether the guard that the record names, if it names one, is valid.
-fn guard_good(record: Record, guards: &[u8], counts: Counts) -> bool
-    requires { length guards.now ≡ counts.guard_words * 2 }
-    ensures { result ≡ guard_good (words_in guards.now counts.guard_words) counts.switches «record» }
+fn guard_good(record: Record, guards: &Guards<'_>) -> bool
+    ensures { result ≡ guard_good (numbers_of guards.now) guards.now.switches «record» }
 {
     match record {
-        Record::If(guard) | Record::Elif(guard) => guard_valid(
-            guards,
-            guard as usize,
-            counts.guard_words,
-            counts.switches,
-        ),
+        Record::If(guard) | Record::Elif(guard) => guards.is_valid(usize::from(guard)),
         Record::Token(_) | Record::Else | Record::End => true,
     }
 }
@@ -77,55 +82,41 @@ fn begun_by(record: Record) -> usize
 }
 
 impl Scan {
+    ghost use Rattle.units.specs.Views.{led_to, state_of};
+
     /// Passes the record at this index, or refuses it.
-    fn pass(
-        &mut self,
-        i: usize,
-        record: Option<Record>,
-        guards: &[u8],
-        counts: Counts,
-    ) -> Result<(), Refusal>
-        requires long { length guards.now ≡ counts.guard_words * 2 }
-        requires few { self.old.branches ≤ 256 }
-        ensures few { OnOk result (self.new.branches ≤ 256) }
-        ensures exact { led_to self.new result ≡ passed (words_in guards.now counts.guard_words) counts.switches i (state_of self.old) «record» }
+    fn pass(&mut self, i: usize, record: Option<Record>, guards: &Guards<'_>) -> Result<(), Refusal>
+        ensures { led_to self.new result ≡ passed (numbers_of guards.now) guards.now.switches i (state_of self.old) «record» }
     {
-        let Some(record) = record else {
-            return Err(Refusal::Record(i));
-        };
-        if !nest(&mut self.nesting, record) {
-            return Err(Refusal::Nesting(i));
-        }
-        if !guard_good(record, guards, counts) {
+        let record = record.ok_or(Refusal::Record(i))?;
+        nest(&mut self.nesting, record).map_err(|_| Refusal::Nesting(i))?;
+        if !guard_good(record, guards) {
             return Err(Refusal::Guard(i));
         }
-        self.branches += begun_by(record);
-        if self.branches > BRANCHES {
+        let branches = self.branches + begun_by(record);
+        if branches > BRANCHES {
             return Err(Refusal::Branch(i));
         }
+        self.branches = branches;
         Ok(())
     }
 }
 
 /// Whether each record is allowed where it stands.
-pub fn check_records(records: &[u8], guards: &[u8], counts: Counts) -> Result<(), Refusal>
-    requires records { length records.now ≡ counts.records * 4 }
-    requires guards { length guards.now ≡ counts.guard_words * 2 }
-    ensures { refusal_in result ≡ records_refusal records.now guards.now counts.terminals counts.switches counts.records counts.guard_words }
+pub fn check_records(part: &[u8], guards: &Guards<'_>, counts: &Counts) -> Result<(), Refusal>
+    requires { length part.now ≡ counts.now.records * 4 }
+    ensures { refusal_in result ≡ scanned (numbers_of guards.now) guards.now.switches 0 begin (records_in part.now counts.now.terminals counts.now.records) }
 {
     let mut scan = Scan {
         nesting: Stack::new(false),
         branches: 0,
     };
-    for i in 0..counts.records {
-        let record = record_of(
-            u16_at(records, 4 * i),
-            u16_at(records, 4 * i + 2),
-            counts.terminals,
-        );
-        scan.pass(i, record, guards, counts)?;
+    let (rows, _) = part.as_chunks();
+    for (i, row) in rows.iter().enumerate() {
+        let [kind, value] = words_of(*row);
+        scan.pass(i, record_of(kind, value, counts.terminals), guards)?;
     }
-    if scan.nesting.len() != 0 {
+    if !scan.nesting.is_empty() {
         return Err(Refusal::Nesting(counts.records));
     }
     Ok(())

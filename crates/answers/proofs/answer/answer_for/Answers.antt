@@ -1,17 +1,14 @@
-use Rattle.std.proofs.Common.{◌≡◌, ◌^◌, ltb, sym, refl, ap, ◌∙◌, subst}
-use Rattle.format.specs.Firsts.{or_else, unless}
-use Rattle.delivery.specs.Decoded.{decoded}
+use Rattle.std.proofs.Common.{◌≡◌, refl, ap}
 use Rattle.delivery.specs.Views.{bytes_of}
-use Rattle.plain.specs.Standing.{Told}
 use Rattle.answers.proofs.answer.answer_for.Goals as goal
 
-pub returns-in-Ok-read : goal.returns-in-Ok-read
-returns-in-Ok-read c =
-    let bs = c.args.bytes.now in
-    let k = c.args.configuration in
-    let same : bytes_of c.seal-delivery.result ≡ bs = ap (λ p. p.bytes.now) c.seal-delivery.ensures ∙ ap (λ r. r.now) c.in-Ok.ensures.same in (
+pub returns : goal.returns
+returns c =
+    let same : bytes_of c.in_ok-delivery.delivery ≡ c.args.bytes.now = ap (λ r. r.now) c.in_ok-delivery.ensures.same in
+    let allowed = c.in_ok-delivery.ensures.refused in
+    let within = rw same at c.in_ok-report.ensures.refused in (
       c.if-bytes-gt-LONGEST.false,
-      ap (λ o. or_else o (unless (ltb k (2 ^ (decoded bs).switches)) (22, 0))) (sym c.in-Ok.ensures.refused) ∙ ap (λ xs. unless (ltb k (2 ^ (decoded xs).switches)) (22, 0)) (sym same) ∙ sym c.in-Ok-read.ensures.refused,
+      rw (← allowed, ← within),
       refl,
-      subst (λ xs. Told (decoded xs) k 1000000 c.in-Ok-read.report) same c.in-Ok-read.ensures.told,
+      rw same at c.in_ok-report.ensures.told,
     )

@@ -2,29 +2,32 @@ use Rattle.std.proofs.Common.{◌≡◌, ◌+◌, sym, ap, ◌∙◌, subst, zer
 use Rattle.stacks.specs.Views.{items_of}
 use Rattle.delivery.specs.Views.{model_of}
 use Rattle.delivery.proofs.Read.{is_bounded}
+use Rattle.plain.specs.declared.configuration.Configuration.{Configuration}
+use Rattle.plain.specs.Branches.{token_count}
+use Rattle.plain.specs.Readers.{Stands, shown}
 use Rattle.plain.specs.Readings.{reading}
-use Rattle.plain.specs.Standing.{Ends, Stands}
+use Rattle.plain.specs.Standing.{Ends}
 use Rattle.plain.proofs.Parsing.{parses, token_length}
 use Rattle.plain.proofs.Stepping.{ends_as}
 use Rattle.plain.proofs.reader.read.Goals as goal
 
-pub returns : goal.returns
-returns c =
+pub returns-clause-told : goal.returns-clause-told
+returns-clause-told c =
     let m = model_of c.args.delivery.now in
     let k = c.args.configuration in
     let n = c.run-actions.result in
     let r = c.run-actions.new.self in
     let new = c.in_ok-reader.ensures in
-    let stands : Stands m n r = subst (λ j. Stands m j r) (zero-add n) (c.run-actions.ensures.stands 0 new.stands) in
-    let same : r.configuration ≡ k = c.run-actions.ensures.same ∙ new.same in
-    let ends : Ends m k c.args.budget n c.ending_of.result = subst (Ends m k c.args.budget n) (sym c.ending_of.ensures) (ends_as m k c.args.budget n r.status r.cursor.place (items_of r.stack) (ap (λ x. reading m x n) (sym same) ∙ stands.shows) c.run-actions.ensures.over) in
+    let delivery = ap (λ (x : Configuration). x.delivery) c.run-actions.ensures.same ∙ new.delivery in
+    let number = ap (λ (x : Configuration). x.number) c.run-actions.ensures.same ∙ new.configuration in
+    let stands : Stands n r = subst (λ j. Stands j r) (zero-add n) (c.run-actions.ensures.stands 0 new.stands) in
+    let shows : reading m k n ≡ shown r = (λ i. reading (model_of (sym delivery i)) (sym number i) n) ∙ stands in
+    let ends : Ends m k c.args.budget n c.ending.result = subst (Ends m k c.args.budget n) (sym c.ending.ensures) (ends_as m k c.args.budget n r.status r.token.place (items_of r.stack) shows c.run-actions.ensures.over) in
+    let tokens : c.count_tokens.result ≡ token_count m k = c.count_tokens.ensures ∙ (λ i. token_count (model_of (delivery i)) (number i)) in
     record {
-      refused = new.refused;
-      told = record {
-        tokens = c.count_tokens.ensures;
-        listed = ap (λ t. t + 1) c.count_tokens.ensures ∙ sym (token_length m k);
-        few = c.run-actions.ensures.few;
-        ends = ends;
-        parses = parses m k (is_bounded c.args.delivery.now) c.args.budget n c.ending_of.result ends;
-      };
+      tokens = tokens;
+      listed = ap (λ t. t + 1) tokens ∙ sym (token_length m k);
+      few = c.run-actions.ensures.few;
+      ends = ends;
+      parses = parses m k (is_bounded c.args.delivery.now) c.args.budget n c.ending.result ends;
     }

@@ -1,19 +1,29 @@
-use Rattle.std.proofs.Common.{◌≡◌, true, false, rules, below_more}
-use Rattle.format.proofs.Firsts.{refuses_none, refuses_at}
-use Rattle.tables.specs.Actions.{action_good}
+use Rattle.std.proofs.Common.{rules, ◌≡◌, ◌+◌, ◌*◌, ◌/◌, ◌%◌, ◌<◌, is_some, [], length, get_or, ◌∙◌, ap, arith}
+use Rattle.std.specs.List.{enumerate_from}
+use Rattle.std.proofs.lemmas.List.FromFn.{get_or-enumerate_from, length-enumerate_from}
+use Rattle.format.specs.Refusals.{refusal_in}
+use Rattle.format.specs.Firsts.{numbered_by}
+use Rattle.format.specs.Words.{u16_in}
+use Rattle.format.proofs.Chunks.{u16_in-row}
+use Rattle.tables.specs.Actions.{action_good, action_of}
+use Rattle.tables.proofs.Checked.{refuses_first}
 use Rattle.tables.proofs.actions.check_actions.Goals as goal
 
-pub returns-then-is_none : goal.returns-then-is_none
-returns-then-is_none c =
-    let refused = c.if-is_none.ensures in
-    let bad : action_good c.args.part.now c.args.states c.args.terminals c.args.productions c.loop-i.i ≡ false = cc in
-    search (rules, refuses_at)
-
 pub returns : goal.returns
-returns c = search (rules, refuses_none)
-
-pub loop-i-preserved : goal.loop-i-preserved
-loop-i-preserved c =
-    let passed = c.if-is_none.ensures in
-    let here : action_good c.args.part.now c.args.states c.args.terminals c.args.productions c.loop-i.i ≡ true = cc in
-    below_more _ _ c.loop-i.invariant here
+returns c =
+    let part = c.args.part.now in
+    let k = c.args.counts.now in
+    let n = k.states * k.terminals in
+    let words = c.as_chunks.result.0.now in
+    let long : length words ≡ n = search (rules, arith) in
+    let told : refusal_in c.map_or.result ≡ numbered_by 4 c.first_misplaced.result = search rules in
+    told
+    ∙ refuses_first 4 n (action_good part k.states k.terminals k.productions) (λ p. is_some (action_of k.states k.productions (p.0 % k.terminals) (u16_in p.1 0))) (enumerate_from 0 words) (0, []) _ (length-enumerate_from 0 words ∙ long)
+    (λ i h.
+    let below : i < length words = omega (arith, long) in
+    let zero_on : 0 + i ≡ i = omega arith in
+    ap (λ p. is_some (action_of k.states k.productions (p.0 % k.terminals) (u16_in p.1 0))) (get_or-enumerate_from 0 words i (0, []) below)
+    ∙ ap (λ j. is_some (action_of k.states k.productions (j % k.terminals) (u16_in (get_or words i []) 0))) zero_on
+    ∙ ap (λ ws. is_some (action_of k.states k.productions (i % k.terminals) (u16_in (get_or ws i []) 0))) c.as_chunks.ensures.front
+    ∙ ap (λ w. is_some (action_of k.states k.productions (i % k.terminals) w)) (u16_in-row 2 (length part / 2) i 0 (2 * i) part [] (omega (arith, long, c.as_chunks.ensures.front_len)) (omega arith) (omega arith)))
+    c.first_misplaced.ensures

@@ -1,24 +1,23 @@
-use Rattle.std.proofs.Common.{sym, refl, ap, ◌∙◌}
-use Rattle.stacks.specs.Views.{items_of}
+use Rattle.std.proofs.Common.{◌≡◌, sym, subst, arith}
 use Rattle.delivery.specs.Views.{model_of}
-use Rattle.plain.specs.Branches.{next_place}
-use Rattle.plain.specs.Places.{Found}
+use Rattle.plain.specs.declared.configuration.Configuration.{Configuration}
 use Rattle.plain.specs.Readings.{standing}
-use Rattle.plain.proofs.Ranges.{in_range, out_of_range}
-use Rattle.plain.proofs.Stepping.{starts_at}
+use Rattle.plain.specs.Tokens.{tokens_ahead}
+use Rattle.plain.specs.Walks.{tokens_left}
+use Rattle.plain.proofs.Stepping.{taken}
+use Rattle.plain.proofs.Walking.{Reached}
 use Rattle.plain.proofs.reader.Reader.new.Goals as goal
+use Rattle.plain.proofs.reader.Reader.new.Goals.{After-first_stack}
 
-pub returns-then-configuration-counts-ne0 : goal.returns-then-configuration-counts-ne0
-returns-then-configuration-counts-ne0 c =
-    record { refused = rw (← c.counts.ensures.value.switches, out_of_range c.args.configuration c.counts.result.switches c.if-configuration-counts-ne0.true); same = tt; stands = tt }
+-- the first token is taken
+begun : (c : After-first_stack) → Reached (model_of c.next_or_end-token.new.self.configuration.delivery) c.next_or_end-token.new.self.configuration.number 0 c.next_or_end-token.result (tokens_left c.next_or_end-token.new.self)
+begun c =
+    let all = subst (λ (k : Configuration). tokens_left c.new-tokens.result ≡ tokens_ahead (model_of k.delivery) k.number 0) (sym c.new-tokens.ensures.configuration) c.new-tokens.ensures.all in
+    taken c.new-tokens.result c.next_or_end-token.new.self c.next_or_end-token.result 0 (omega arith) all c.next_or_end-token.ensures.configuration c.next_or_end-token.ensures.token c.next_or_end-token.ensures.left
 
-pub returns : goal.returns
-returns c =
-    let m = model_of c.args.delivery.now in
-    let k = c.args.configuration in
-    let found : Found m k c.new-cursor.result.place c.seek.new.self.place (items_of c.seek.new.self.frames) = c.seek.ensures (starts_at m k _ _ c.new-cursor.ensures.place c.new-cursor.ensures.frames) in
-    record {
-      refused = rw (← c.counts.ensures.value.switches, in_range k c.counts.result.switches c.if-configuration-counts-ne0.false);
-      same = refl;
-      stands = record { shows = λ i. standing ((ap (next_place m k) (sym c.new-cursor.ensures.place) ∙ sym found.place) i) (sym c.first_stack.ensures i); at = found.at };
-    }
+pub invariant_of-result : goal.invariant_of-result
+invariant_of-result c = record { within = (begun c).inside; terminal = (begun c).terminal; behind = (begun c).left }
+
+pub returns-clause-stands : goal.returns-clause-stands
+returns-clause-stands c =
+    λ i. standing (sym (begun (goal.at.returns-clause-stands c).After-first_stack).place i) (sym c.first_stack.ensures i)
