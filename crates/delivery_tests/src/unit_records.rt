@@ -1,5 +1,5 @@
 //! The records, their nesting, their guards and their branches.
-use samples::{ELIF, ELSE, END, IF, Words, X, checked, elif_at, if_at, refused, taken, unit};
+use samples::{ELIF, ELSE, END, IF, Words, X, at, checked, refused, taken, unit};
 use std::alloc::{AllocError, Global};
 use std::iter::repeat_n;
 use std::test::Fail;
@@ -141,7 +141,7 @@ fn guard_places(rt: HostRuntime) -> Result<(), Fail> {
         (0, 4, Some((9, 2))),
         (0, 65535, Some((9, 2))),
     ] {
-        let records = [if_at(first), X, elif_at(second), END];
+        let records = [at(IF, first), X, at(ELIF, second), END];
         checked(&unit(rt.alloc(), &records, &words, 2)?, wanted)?;
     }
     Ok(())
@@ -159,7 +159,7 @@ fn the_first_is_told(rt: HostRuntime) -> Result<(), Fail> {
         refused(&unit(rt.alloc(), records, &[0], 0)?, number, 0)?;
     }
     let mut records = flat(rt.alloc(), 1, 254)?;
-    for (last, number) in [(if_at(1), 9), ((4, 1), 7), (IF, 10)] {
+    for (last, number) in [(at(IF, 1), 9), ((4, 1), 7), (IF, 10)] {
         records.push(last)?;
         bad(&rt, &records, number, 257)?;
         let _ = records.pop();

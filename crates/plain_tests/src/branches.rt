@@ -1,7 +1,7 @@
 //! Which tokens a configuration has. The tables have no action, so that a reading fails at its first token.
 use delivery::check;
 use plain::{Ending, Reader, Reason, Status, read};
-use samples::{ELSE, END, Words, X, elif_at, if_at, unit};
+use samples::{ELIF, ELSE, END, IF, Words, X, at, unit};
 use std::process::Abort;
 use std::test::Fail;
 
@@ -41,22 +41,22 @@ fn has(
 fn one_branch_is_had(rt: HostRuntime) -> Result<(), Fail> {
     has(
         &rt,
-        &[if_at(FIRST), X, elif_at(BOTH), X, ELSE, X, END],
+        &[at(IF, FIRST), X, at(ELIF, BOTH), X, ELSE, X, END],
         [(1, 5), (1, 1), (1, 5), (1, 1)],
     )?;
     has(
         &rt,
-        &[if_at(BOTH), X, elif_at(FIRST), X, X, ELSE, END],
+        &[at(IF, BOTH), X, at(ELIF, FIRST), X, X, ELSE, END],
         [(0, 7), (2, 3), (0, 7), (1, 1)],
     )?;
     has(
         &rt,
         &[
-            if_at(NEVER),
+            at(IF, NEVER),
             X,
-            elif_at(NEVER),
+            at(ELIF, NEVER),
             X,
-            elif_at(SECOND_ALONE),
+            at(ELIF, SECOND_ALONE),
             X,
             END,
             X,
@@ -71,14 +71,14 @@ fn what_encloses_counts(rt: HostRuntime) -> Result<(), Fail> {
     has(
         &rt,
         &[
-            if_at(FIRST),
-            if_at(BOTH),
+            at(IF, FIRST),
+            at(IF, BOTH),
             X,
             ELSE,
             X,
             END,
             ELSE,
-            if_at(FIRST),
+            at(IF, FIRST),
             X,
             ELSE,
             X,
@@ -89,7 +89,7 @@ fn what_encloses_counts(rt: HostRuntime) -> Result<(), Fail> {
     )?;
     has(
         &rt,
-        &[if_at(NEVER), if_at(FIRST), X, ELSE, X, END, END],
+        &[at(IF, NEVER), at(IF, FIRST), X, ELSE, X, END, END],
         [(0, 7), (0, 7), (0, 7), (0, 7)],
     )
 }
@@ -97,7 +97,7 @@ fn what_encloses_counts(rt: HostRuntime) -> Result<(), Fail> {
 /// A reader goes one action at a time, and stays where its reading ended.
 #[test]
 fn a_reader_steps(rt: HostRuntime) -> Result<(), Fail> {
-    let bytes = unit(rt.alloc(), &[if_at(FIRST), X, END, X], &GUARDS, 2)?;
+    let bytes = unit(rt.alloc(), &[at(IF, FIRST), X, END, X], &GUARDS, 2)?;
     let delivery = check(&bytes)?;
     let mut reader = Reader::new(&delivery, 2)?;
     assert_eq!(rt; reader.place(), 3);

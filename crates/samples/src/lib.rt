@@ -115,14 +115,9 @@ pub const ELSE: Words = (4, 0);
 
 pub const END: Words = (5, 0);
 
-/// An if whose guard begins at this word.
-pub fn if_at(guard: u16) -> Words {
-    (2, guard)
-}
-
-/// An elif whose guard begins at this word.
-pub fn elif_at(guard: u16) -> Words {
-    (3, guard)
+/// An if or an elif whose guard begins at this word.
+pub fn at((kind, _): Words, guard: u16) -> Words {
+    (kind, guard)
 }
 
 /// A unit of these records and guards, with terminals 0 and 1 and so many switches.
