@@ -1,12 +1,13 @@
 -- What the code reads of a delivery is what its model holds.
-use Rattle.std.proofs.Common.{◌≡◌, ℕ, ◌+◌, ◌*◌, ◌<◌, ◌≤◌, true, false, ltb, ◌⊎◌, List, [], ◌∷◌, map, length, get_or, drop, slice_index, slice_index_or, is_some, IfSome, IsSome, Some, None, Option, unwrap_or, sym, refl, ap, ap₂, ◌∙◌, subst, inl, inr, arith}
+use Rattle.std.proofs.Common.{◌≡◌, ℕ, suc, ◌+◌, ◌*◌, ◌<◌, ◌≤◌, true, false, ltb, ◌⊎◌, List, [], ◌∷◌, map, length, get_or, drop, slice_index, slice_index_or, is_some, All, IfSome, IsSome, Some, None, Option, unwrap_or, sym, refl, ap, ap₂, ◌∙◌, subst, inl, inr, arith}
 use Rattle.std.specs.List.{slice_get}
 use Rattle.std.specs.Option.{option_map}
 use Rattle.std.proofs.lemmas.Option.{slice_get-get_or, slice_get_past}
 use Rattle.std.specs.Simd.{first_chunks}
 use Rattle.format.proofs.Chunks.{length-first_chunks, u16_in-row}
 use Rattle.std.proofs.lemmas.Nat.{mod-mul-add, mul-add-lt, mul-le}
-use Rattle.std.proofs.lemmas.List.{length-map}
+use Rattle.std.proofs.lemmas.List.{get_or-drop, length-map}
+use Rattle.std.proofs.lemmas.List.Elements.{All-cons, All-nil}
 use Rattle.std.proofs.lemmas.Bool.{both_ways, cases_lt, cond_both, cond-true, cond-false, le-ltb, lt-ltb}
 use Rattle.format.specs.declared.heads.Counts.{Counts}
 use Rattle.format.specs.Heads.{counts_of}
@@ -18,12 +19,13 @@ use Rattle.tables.specs.Actions.{action_in, action_of}
 use Rattle.tables.specs.Gotos.{goto_of}
 use Rattle.tables.specs.Productions.{production_in, production_of}
 use Rattle.units.specs.Guards.{leading, word_of}
-use Rattle.units.specs.GuardWords.{numbers_of, said_by}
+use Rattle.units.specs.declared.guards.Guard.{Guard}
+use Rattle.units.specs.GuardWords.{left_of, numbers_of, said_by}
 use Rattle.tables.specs.Cells.{cell_at, cells_of}
 use Rattle.tables.specs.declared.table.Table.{Table}
 use Rattle.units.specs.Records.{record_of}
 use Rattle.delivery.specs.declared.deliveries.Delivery.{Delivery}
-use Rattle.delivery.specs.Bounds.{ActionBound, Bounded, Counted, GotoBound, Limited, ProductionBound, RecordBound}
+use Rattle.delivery.specs.Bounds.{ActionBound, Bounded, Counted, GotoBound, Limited, ProductionBound, RecordBound, WordBound}
 use Rattle.delivery.specs.Decoded.{decoded}
 use Rattle.delivery.specs.Deliveries.{actions_in, gotos_in, guards_in, productions_in, records_in}
 use Rattle.delivery.specs.Model.{action_at, goto_at, guard_at, production_at, record_at, word_at}
@@ -35,6 +37,12 @@ use Rattle.delivery.proofs.Sound.{Sound, sound}
 some_value : {X : Type 0} (o : Option X) (d : X) → is_some o ≡ true → o ≡ Some (unwrap_or o d)
 some_value None d e = absurd (both_ways false refl e)
 some_value (Some x) d e = refl
+
+-- what holds of each item that is there holds of those in front of the first that is missing
+all_leading : {X : Type 0} (P : X → Type 0) (xs : List (Option X)) → ((i : ℕ) → IfSome (get_or xs i None) P) → All P (leading xs)
+all_leading P [] h = All-nil P
+all_leading P (None ∷ xs) h = All-nil P
+all_leading P (Some x ∷ xs) h = All-cons P x (leading xs) (h 0) (all_leading P xs (λ i. h (suc i)))
 
 -- the place of a row and a column of a table lies inside it, and that of a row past the last past it
 cell_below : (q w t h : ℕ) → q < h → t < w → q * w + t < h * w
@@ -286,3 +294,8 @@ module _ (d : Delivery) where
 
     pub guard_found : leading (drop i (said_by d.guards)) ≡ guard_at (model_of d) i
     guard_found = ap (λ ws. leading (drop i ws)) said_as_read
+
+    pub guard_bounded : (g : Guard) → left_of g ≡ leading (drop i (said_by d.guards)) → All (WordBound (model_of d)) (left_of g)
+    guard_bounded g e =
+        let all = all_leading (WordBound (model_of d)) (drop i (model_of d).guards) (λ k. subst (λ o. IfSome o (WordBound (model_of d))) (sym (get_or-drop i (model_of d).guards k None)) (is_bounded.word (i + k))) in
+        subst (All (WordBound (model_of d))) (sym (e ∙ guard_found)) all

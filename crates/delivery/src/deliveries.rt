@@ -12,7 +12,7 @@ ghost use Rattle.delivery.specs.Deliveries.{actions_in, gotos_in, guards_in, pro
 
 mod reads;
 
-use format::{Counts, Refusal, read_head};
+use format::{Counts, Refusal, read_parts};
 use tables::{Table, check_actions, check_gotos, check_productions};
 use units::{Guards, check_records};
 
@@ -45,7 +45,7 @@ pub fn check(bytes: &[u8]) -> Result<Delivery<'_>, Refusal>
     ensures refused { refusal_in result ≡ refusal_of bytes.now }
     ensures same { IfOk result (λ d. d.bytes ≡ bytes.entry) }
 {
-    let head = read_head(bytes)?;
+    let head = read_parts(bytes)?;
     let counts = head.counts;
     check_actions(head.actions, &counts)?;
     check_gotos(head.gotos, &counts)?;

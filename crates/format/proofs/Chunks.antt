@@ -31,7 +31,7 @@ module _ (part : List ℕ) (words : ℕ) where
   pub length-words_in : length (words_in part words) ≡ words
   length-words_in = length-map-range_with_len (λ i. u16_in part (2 * i)) 0 words
 
-  get_or-words_in : (i : ℕ) → i < words → get_or (words_in part words) i 0 ≡ u16_in part (2 * i)
+  pub get_or-words_in : (i : ℕ) → i < words → get_or (words_in part words) i 0 ≡ u16_in part (2 * i)
   get_or-words_in i h = get_or-map-range_with_len (λ i. u16_in part (2 * i)) 0 words i i 0 h (zero-add i)
 
   -- the part in rows of two bytes has its words

@@ -1,6 +1,8 @@
 -- The head of a delivery: what its numbers say, and which rule of it fails first.
-use Rattle.std.specs.Prelude.{ℕ, ◌+◌, ◌*◌, ◌&&◌, List, length, take, drop, Option, ◌==◌, nat_le}
+use Rattle.std.specs.Prelude.{◌≡◌, ℕ, ◌+◌, ◌*◌, ◌<◌, ◌≤◌, ◌&&◌, List, length, take, drop, Option, ◌==◌, nat_le}
 use Rattle.format.specs.declared.heads.Counts.{Counts}
+use Rattle.format.specs.declared.heads.Span.{Span}
+use Rattle.format.specs.declared.heads.Head.{Head}
 use Rattle.format.specs.Firsts.{or_else, unless}
 use Rattle.format.specs.Words.{u16_in, u32_in}
 
@@ -16,11 +18,6 @@ counts_of bs = record {
   switches = u16_in bs 12;
 }
 
--- where a part lies: its first byte, and how many it has
-pub record Span : Type 0 where
-  pub start : ℕ
-  pub size : ℕ
-
 -- the pair at this byte: where a part begins, and how many bytes it has
 abbrev pub span_of : List ℕ → ℕ → Span
 span_of bs at = record { start = u32_in bs at; size = u32_in bs (at + 4) }
@@ -28,6 +25,16 @@ span_of bs at = record { start = u32_in bs at; size = u32_in bs (at + 4) }
 -- the bytes of a part
 abbrev pub part_of : List ℕ → Span → List ℕ
 part_of bs s = take s.size (drop s.start bs)
+
+abbrev pub head_of : List ℕ → Head
+head_of bs = record {
+  counts = counts_of bs;
+  actions = span_of bs 16;
+  gotos = span_of bs 24;
+  productions = span_of bs 32;
+  records = span_of bs 40;
+  guards = span_of bs 48;
+}
 
 -- the count at this byte is within its limits
 abbrev pub count_refusal : List ℕ → ℕ → ℕ → ℕ → Option (ℕ × ℕ)
@@ -64,3 +71,17 @@ pairs_refusal bs =
 
 abbrev pub head_refusal : List ℕ → Option (ℕ × ℕ)
 head_refusal bs = or_else (unless (nat_le 56 (length bs)) (1, length bs)) (or_else (counts_refusal bs) (pairs_refusal bs))
+
+-- there is a terminal, and each part ends inside the bytes and has the words that the counts give
+pub record LaidOut (h : Head) (bs : List ℕ) : Type 0 where
+  pub terminals : 0 < h.counts.terminals
+  pub actions : h.actions.start + h.actions.size ≤ length bs
+  pub gotos : h.gotos.start + h.gotos.size ≤ length bs
+  pub productions : h.productions.start + h.productions.size ≤ length bs
+  pub records : h.records.start + h.records.size ≤ length bs
+  pub guards : h.guards.start + h.guards.size ≤ length bs
+  pub actions_size : h.actions.size ≡ h.counts.states * h.counts.terminals * 2
+  pub gotos_size : h.gotos.size ≡ h.counts.states * h.counts.nonterminals * 2
+  pub productions_size : h.productions.size ≡ h.counts.productions * 4
+  pub records_size : h.records.size ≡ h.counts.records * 4
+  pub guards_size : h.guards.size ≡ h.counts.guard_words * 2

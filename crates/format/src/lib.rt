@@ -3,10 +3,12 @@
 
 mod heads;
 mod numbered;
+mod parts;
 mod refusals;
 mod words;
 
-pub use heads::{Counts, Head, read_head};
+pub use heads::{Counts, Head, Span, read_head};
 pub use numbered::{Numbered, told};
+pub use parts::{Parts, read_parts};
 pub use refusals::Refusal;
-pub use words::{number_of, row_at, word_at, words_in, words_of};
+pub use words::{number_of, row_at, u16_at, word_at, words_in, words_of};

@@ -18,6 +18,14 @@ pub fn number_of(word: [u8; 2]) -> u16
     u16::from_le_bytes(word)
 }
 
+/// The number in the two bytes from `at` on.
+pub fn u16_at(bytes: &[u8], at: usize) -> u16
+    requires { at + 2 ≤ length bytes.now }
+    ensures { result ≡ u16_in bytes.now at }
+{
+    number_of(bytes_at(bytes, at))
+}
+
 /// The words of a part.
 #[tactic(auto, using(crate::proofs::Chunks::numbers_of_part))]
 pub fn words_in(part: &[u8]) -> &[[u8; 2]]

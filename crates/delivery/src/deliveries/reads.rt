@@ -1,5 +1,5 @@
 //! What a delivery holds. Every bound comes from the type's invariant.
-ghost use Rattle.std.specs.Prelude.{◌≡◌, IfSome};
+ghost use Rattle.std.specs.Prelude.{◌≡◌, All, IfSome};
 ghost use Rattle.units.specs.GuardWords.{left_of};
 ghost use Rattle.delivery.specs.Bounds.{ActionBound, Bounded, Counted, GotoBound, Limited, ProductionBound, RecordBound, WordBound};
 ghost use Rattle.delivery.specs.Model.{action_at, goto_at, guard_at, production_at, record_at, word_at};
@@ -86,9 +86,10 @@ impl<'a> Delivery<'a> {
     }
 
     /// The words of the guard that begins at this index, in order.
-    #[tactic(auto, using(crate::proofs::Read::guard_found))]
+    #[tactic(auto, using(crate::proofs::Read::guard_found, crate::proofs::Read::guard_bounded))]
     pub fn guard(&self, index: u16) -> Guard<'a>
-        ensures { left_of result ≡ guard_at (model_of self.now) index }
+        ensures value { left_of result ≡ guard_at (model_of self.now) index }
+        ensures bound { All (WordBound (model_of self.now)) (left_of result) }
     {
         self.guards.guard(usize::from(index))
     }
