@@ -15,7 +15,7 @@ off_above i k h l =
     rw (div-eq_of_lt below)
 
 -- a word leaves as many operands as it says
-held_worked : (k : ℕ) (w : Word) (xs : List Bool) (behind : ℕ) → held_behind w (length xs) ≡ Some behind → length (worked k w xs) ≡ behind
+pub held_worked : (k : ℕ) (w : Word) (xs : List Bool) (behind : ℕ) → held_behind w (length xs) ≡ Some behind → length (worked k w xs) ≡ behind
 held_worked k (Switch i) xs behind e = grind arith
 held_worked k Not [] behind e = grind arith
 held_worked k Not (x ∷ xs) behind e = grind arith

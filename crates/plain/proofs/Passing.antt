@@ -8,14 +8,12 @@ use Rattle.delivery.specs.Model.{record_at}
 use Rattle.delivery.specs.Views.{model_of}
 use Rattle.delivery.proofs.Read.{is_bounded}
 use Rattle.plain.specs.declared.configuration.Configuration.{Configuration}
-use Rattle.plain.specs.declared.frame.Frame.{Frame}
 use Rattle.plain.specs.declared.tokens.Token.{Token}
 use Rattle.plain.specs.declared.tokens.Tokens.{Tokens}
-use Rattle.plain.specs.Frames.{framed, has_innermost}
-use Rattle.plain.specs.Places.{At}
+use Rattle.plain.specs.Frames.{has_innermost}
 use Rattle.plain.specs.Tokens.{token_of, tokens_ahead}
 use Rattle.plain.specs.Walks.{Takes, tokens_left}
-use Rattle.plain.proofs.Walking.{at_more, few_ahead, framed_few, ahead_framed}
+use Rattle.plain.proofs.Walking.{few_ahead, ahead_framed}
 
 -- as many tokens are given as are fewer left
 pub yields_left : (s : Tokens) (xs : List Token) (t : Tokens) → Yields Takes s xs t → length (tokens_left t) + length xs ≡ length (tokens_left s)
@@ -26,17 +24,6 @@ yields_left s (x ∷ xs) t e = let more = yields_left e.0 xs t e.2 in let first 
 pub few : (k : Configuration) → length (tokens_ahead (model_of k.delivery) k.number 0) ≤ 4096
 few k = few_ahead (model_of k.delivery) k.number (is_bounded k.delivery)
 
--- and no place is past them
-pub few_passed : (s : Tokens) → s.place ≤ 4096
-few_passed s = let within = s.at.within in omega (arith, (is_bounded s.configuration.delivery).records)
-
 -- going past the record at its place
-module _ (s : Tokens) (r : Record) (e : record_at (model_of s.configuration.delivery) s.place ≡ Some r) where
-  pub few_framed : length (framed (model_of s.configuration.delivery) s.configuration.number r (items_of s.frames)) ≤ 64
-  few_framed = framed_few (model_of s.configuration.delivery) s.configuration.number s.place r e (items_of s.frames) s.at (is_bounded s.configuration.delivery)
-
-  pub at_next : (gs : List Frame) → gs ≡ framed (model_of s.configuration.delivery) s.configuration.number r (items_of s.frames) → At (model_of s.configuration.delivery) s.configuration.number (s.place + 1) gs
-  at_next = at_more (model_of s.configuration.delivery) s.configuration.number s.place r e (items_of s.frames) s.at
-
-  pub passed : cons_option (token_of s.place r (has_innermost (items_of s.frames))) (tokens_ahead (model_of s.configuration.delivery) s.configuration.number (s.place + 1)) ≡ tokens_left s
-  passed = sym (ahead_framed (model_of s.configuration.delivery) s.configuration.number s.place r e (items_of s.frames) s.at)
+pub passed : (s : Tokens) (r : Record) → record_at (model_of s.configuration.delivery) s.cursor.place ≡ Some r → cons_option (token_of s.cursor.place r (has_innermost (items_of s.cursor.frames))) (tokens_ahead (model_of s.configuration.delivery) s.configuration.number (s.cursor.place + 1)) ≡ tokens_left s
+passed s r e = sym (ahead_framed (model_of s.configuration.delivery) s.configuration.number s.cursor.place r e (items_of s.cursor.frames) s.at)

@@ -1,33 +1,34 @@
 -- Where the code's reader stands.
 use Rattle.std.specs.Prelude.{◌≡◌, ℕ, zero, suc}
 use Rattle.stacks.specs.Views.{items_of}
-use Rattle.delivery.specs.Views.{model_of}
-use Rattle.plain.specs.declared.configuration.Configuration.{Configuration}
+use Rattle.delivery.specs.Model.{Model}
 use Rattle.plain.specs.declared.reader.Ending.{Ending}
 use Rattle.plain.specs.declared.reader.Reader.{Reader}
+use Rattle.plain.specs.Places.{At}
 use Rattle.plain.specs.Readings.{Reading, next, reading}
 use Rattle.plain.specs.Standing.{ending_as, shown_as}
 
--- the configuration of a reader, with its delivery
-abbrev pub configuration_of : Reader → Configuration
-configuration_of r = r.tokens.configuration
-
 -- the reading that a reader shows
 abbrev pub shown : Reader → Reading
-shown r = shown_as r.status r.token.place (items_of r.stack)
+shown r = shown_as r.status r.cursor.place (items_of r.stack)
 
 -- the same one action later
-abbrev pub shown_next : Reader → Reading
-shown_next r = next (model_of (configuration_of r).delivery) (configuration_of r).number (shown r)
+abbrev pub shown_next : Model → Reader → Reading
+shown_next m r = next m r.configuration (shown r)
 
 -- the same so many actions later
-abbrev pub shown_after : ℕ → Reader → Reading
-shown_after zero r = shown r
-shown_after (suc n) r = next (model_of (configuration_of r).delivery) (configuration_of r).number (shown_after n r)
+abbrev pub shown_after : Model → ℕ → Reader → Reading
+shown_after m zero r = shown r
+shown_after m (suc n) r = next m r.configuration (shown_after m n r)
+
+-- the reader's place is one of this model, and its frames are those there
+abbrev pub Placed : Model → Reader → Type 0
+Placed m r = At m r.configuration r.cursor.place (items_of r.cursor.frames)
 
 -- a reader stands where its configuration's reading is after j actions
-abbrev pub Stands : ℕ → Reader → Type 0
-Stands j r = reading (model_of (configuration_of r).delivery) (configuration_of r).number j ≡ shown r
+pub record Stands (m : Model) (j : ℕ) (r : Reader) : Type 0 where
+  pub shows : reading m r.configuration j ≡ shown r
+  pub at : At m r.configuration r.cursor.place (items_of r.cursor.frames)
 
 abbrev pub ending_of : Reader → Ending
-ending_of r = ending_as r.status r.token.place
+ending_of r = ending_as r.status r.cursor.place

@@ -8,8 +8,7 @@ ghost use Rattle.delivery.specs.Model.{guard_at};
 ghost use Rattle.delivery.specs.Views.{model_of};
 ghost use Rattle.plain.specs.Guards.{holds, worked};
 
-use crate::configuration::Configuration;
-use delivery::Word;
+use delivery::{Delivery, Word};
 use stacks::Stack;
 use units::OPERANDS;
 
@@ -49,16 +48,14 @@ fn work(operands: &mut Stack<bool, OPERANDS>, word: Word, number: u32)
     operands.push(value).unwrap();
 }
 
-impl Configuration<'_> {
-    /// Whether the guard that begins at this word holds.
-    pub fn holds(&self, guard: u16) -> bool
-        requires { Balanced 0 (guard_at (model_of self.now.delivery) guard) }
-        ensures { result ≡ holds (model_of self.now.delivery) self.now.number guard }
-    {
-        let mut operands = Stack::new(false);
-        for word in self.delivery.guard(guard) {
-            work(&mut operands, word, self.number);
-        }
-        operands.top().unwrap_or(false)
+/// Whether the guard that begins at this word holds in the configuration of this number.
+pub fn guard_holds(delivery: &Delivery<'_>, guard: u16, number: u32) -> bool
+    requires { Balanced 0 (guard_at (model_of delivery.now) guard) }
+    ensures { result ≡ holds (model_of delivery.now) number guard }
+{
+    let mut operands = Stack::new(false);
+    for word in delivery.guard(guard) {
+        work(&mut operands, word, number);
     }
+    operands.top().unwrap_or(false)
 }

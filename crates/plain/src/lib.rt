@@ -3,6 +3,7 @@
 
 mod automaton;
 mod configuration;
+mod cursor;
 mod frame;
 mod guards;
 mod reader;

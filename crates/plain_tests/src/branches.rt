@@ -102,11 +102,11 @@ fn a_reader_steps(rt: HostRuntime) -> Result<(), Fail> {
     let mut reader = Reader::new(&delivery, 2)?;
     assert_eq!(rt; reader.place(), 3);
     assert_eq!(rt; reader.status(), Status::Standing);
-    assert_eq!(rt; reader.run(0), 0);
-    assert!(rt; reader.step());
+    assert_eq!(rt; reader.run(&delivery, 0), 0);
+    assert!(rt; reader.step(&delivery));
     assert_eq!(rt; reader.status(), Status::Failed(Reason::NoAction));
-    assert!(rt; !reader.step());
-    assert_eq!(rt; reader.run(5), 0);
+    assert!(rt; !reader.step(&delivery));
+    assert_eq!(rt; reader.run(&delivery, 5), 0);
     assert_eq!(rt; reader.place(), 3);
     assert!(rt; Reader::new(&delivery, 4).is_err());
     Ok(())

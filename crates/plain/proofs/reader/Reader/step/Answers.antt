@@ -1,37 +1,77 @@
-use Rattle.std.proofs.Common.{◌≡◌, ◌+◌, Ok, ap, sym, ◌∙◌, subst}
+use Rattle.std.proofs.Common.{◌≡◌, ℕ, ◌<◌, List, Ok, sym, refl, ap, ◌∙◌}
+use Rattle.std.proofs.lemmas.Bool.{true≢false}
 use Rattle.stacks.specs.Views.{items_of}
+use Rattle.delivery.specs.Model.{finish}
 use Rattle.delivery.specs.Views.{model_of}
+use Rattle.delivery.proofs.Read.{is_bounded}
 use Rattle.plain.specs.declared.automaton.Move.{Move}
-use Rattle.plain.specs.declared.configuration.Configuration.{Configuration}
 use Rattle.plain.specs.Acts.{shown_by}
-use Rattle.plain.specs.Automaton.{outcome, shifts}
-use Rattle.plain.specs.Branches.{next_place}
+use Rattle.plain.specs.Automaton.{Outcome, outcome}
 use Rattle.plain.specs.Readings.{standing}
-use Rattle.plain.specs.Standing.{shown_as}
-use Rattle.plain.specs.Walks.{tokens_left}
-use Rattle.plain.proofs.Stepping.{shift_within, shown_more, taken}
-use Rattle.plain.proofs.Walking.{Reached}
+use Rattle.plain.specs.Readers.{Placed, shown_next}
+use Rattle.plain.specs.Standing.{is_standing, shown_as}
+use Rattle.plain.proofs.Stepping.{shift_below, shown_more, stands_more}
 use Rattle.plain.proofs.reader.Reader.step.Goals as goal
-use Rattle.plain.proofs.reader.Reader.step.Goals.{After-next_or_end-self}
 
--- a shift takes the next token
-shifted : (c : After-next_or_end-self) → outcome (model_of c.args.self.now.tokens.configuration.delivery) c.args.self.now.token.terminal (items_of c.args.self.now.stack) ≡ shifts (items_of c.act.new.stack)
-shifted c = sym c.in-Ok-Shift.ensures ∙ ap (λ (v : Move). shown_by (Ok v) (items_of c.act.new.stack)) c.in-Ok-Shift.field-0-is
+-- what the move that was made shows
+told : (v w : Move) (st : List ℕ) (o : Outcome) → shown_by (Ok v) st ≡ o → v ≡ w → o ≡ shown_by (Ok w) st
+told v w st o e f = sym e ∙ ap (λ (x : Move). shown_by (Ok x) st) f
 
-reached : (c : After-next_or_end-self) → Reached (model_of c.next_or_end-self.new.self.configuration.delivery) c.next_or_end-self.new.self.configuration.number (c.args.self.now.token.place + 1) c.next_or_end-self.result (tokens_left c.next_or_end-self.new.self)
-reached c =
+pub returns-in-Ok-Shift : goal.returns-in-Ok-Shift
+returns-in-Ok-Shift c =
+    let m = model_of c.args.delivery.now in
     let r = c.args.self.now in
-    taken r.tokens c.next_or_end-self.new.self c.next_or_end-self.result (r.token.place + 1) (shift_within r (items_of c.act.new.stack) (shifted c)) r.behind c.next_or_end-self.ensures.configuration c.next_or_end-self.ensures.token c.next_or_end-self.ensures.left
-
-pub invariant_of-self : goal.invariant_of-self
-invariant_of-self c = record { within = (reached c).inside; terminal = (reached c).terminal; behind = (reached c).left }
-
-pub returns-in-Ok-Shift-clause-next : goal.returns-in-Ok-Shift-clause-next
-returns-in-Ok-Shift-clause-next c = λ _.
-    let before = (goal.at.returns-in-Ok-Shift-clause-next c).After-next_or_end-self in
-    let r = c.args.self.now in
+    let p = r.cursor.place in
     let st = items_of c.act.new.stack in
-    let place = subst (λ (k : Configuration). c.next_or_end-self.result.place ≡ next_place (model_of k.delivery) k.number (r.token.place + 1)) c.next_or_end-self.ensures.configuration (reached before).place in
-    ap (λ a. shown_as a c.next_or_end-self.result.place st) c.in-Standing.is
-    ∙ ap (λ q. standing q st) place
-    ∙ sym (shown_more r (shifts st) c.in-Standing.is (shifted before))
+    let shift = told _ _ st _ c.in-Ok-Shift.ensures c.in-Ok-Shift.field-0-is in
+    let below : p < finish m = shift_below m (items_of r.stack) (is_bounded c.args.delivery.now) p st (ap (λ t. outcome m t (items_of r.stack)) (sym c.terminal_at-terminal.ensures) ∙ shift) in
+    let found = c.advance.ensures below in
+    let shows : Placed m r → shown_as r.status c.advance.new.self.place st ≡ shown_next m r = λ at. ap (λ a. shown_as a c.advance.new.self.place st) c.in-Standing.is ∙ ap (λ q. standing q st) (found at).place ∙ sym (shown_more m r c.terminal_at-terminal.result _ c.in-Standing.is c.terminal_at-terminal.ensures shift) in
+    record {
+      made = sym (ap is_standing c.in-Standing.is);
+      same = refl;
+      kept = λ e. absurd (true≢false e);
+      next = λ at. ((found at).at, λ _. shows at);
+      stands = λ j s. stands_more m j r _ refl (found s.at).at (shows s.at) s;
+    }
+
+pub returns-in-Ok-Reduce : goal.returns-in-Ok-Reduce
+returns-in-Ok-Reduce c =
+    let m = model_of c.args.delivery.now in
+    let r = c.args.self.now in
+    let reduced = told _ _ (items_of c.act.new.stack) _ c.in-Ok-Reduce.ensures c.in-Ok-Reduce.field-0-is in
+    let shows = ap (λ a. shown_as a r.cursor.place (items_of c.act.new.stack)) c.in-Standing.is ∙ sym (shown_more m r c.terminal_at-terminal.result _ c.in-Standing.is c.terminal_at-terminal.ensures reduced) in
+    record {
+      made = sym (ap is_standing c.in-Standing.is);
+      same = refl;
+      kept = λ e. absurd (true≢false e);
+      next = λ at. (at, λ _. shows);
+      stands = λ j s. stands_more m j r _ refl s.at shows s;
+    }
+
+pub returns-in-Ok-Accept : goal.returns-in-Ok-Accept
+returns-in-Ok-Accept c =
+    let m = model_of c.args.delivery.now in
+    let r = c.args.self.now in
+    let accepts = told _ _ (items_of c.act.new.stack) _ c.in-Ok-Accept.ensures c.in-Ok-Accept.field-0-is in
+    let shows = sym (shown_more m r c.terminal_at-terminal.result _ c.in-Standing.is c.terminal_at-terminal.ensures accepts) in
+    record {
+      made = sym (ap is_standing c.in-Standing.is);
+      same = refl;
+      kept = λ e. absurd (true≢false e);
+      next = λ at. (at, λ _. shows);
+      stands = λ j s. stands_more m j r _ refl s.at shows s;
+    }
+
+pub returns-in-Err : goal.returns-in-Err
+returns-in-Err c =
+    let m = model_of c.args.delivery.now in
+    let r = c.args.self.now in
+    let shows = sym (shown_more m r c.terminal_at-terminal.result _ c.in-Standing.is c.terminal_at-terminal.ensures (sym c.in-Err.ensures)) in
+    record {
+      made = sym (ap is_standing c.in-Standing.is);
+      same = refl;
+      kept = λ e. absurd (true≢false e);
+      next = λ at. (at, λ _. shows);
+      stands = λ j s. stands_more m j r _ refl s.at shows s;
+    }

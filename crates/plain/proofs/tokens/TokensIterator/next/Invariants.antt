@@ -10,4 +10,4 @@ invariant-loop-record l =
     (l.self.configuration ≡ l.initial.self.configuration) × (tokens_left l.self ≡ tokens_left l.initial.self)
 
 abbrev pub decreases-loop-record : goal.decreases-loop-record
-decreases-loop-record l = finish (model_of l.self.configuration.delivery) - l.self.place
+decreases-loop-record l = finish (model_of l.self.configuration.delivery) - l.self.cursor.place

@@ -4,11 +4,11 @@ use Rattle.units.specs.GuardWords.{left_of}
 use Rattle.delivery.specs.Bounds.{Balanced}
 use Rattle.plain.specs.Guards.{evaluated}
 use Rattle.plain.proofs.Evaluated.{word_balanced, word_evaluated}
-use Rattle.plain.proofs.configuration.Configuration.holds.Goals as goal
+use Rattle.plain.proofs.guards.guard_holds.Goals as goal
 
 pub loop-word-preserved : goal.loop-word-preserved
 loop-word-preserved c =
-    let k = c.args.self.now.number in
+    let k = c.args.number in
     let xs = items_of c.loop-word.operands in
     let before = left_of c.loop-word.word-iterator in
     let left = left_of c.next.new.self in
