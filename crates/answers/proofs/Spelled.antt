@@ -8,7 +8,7 @@ abbrev pub spelled_behind : ℕ → List ℕ → Option ℕ
 spelled_behind v bs = cond (are_digits bs) (Some (min (value_behind v bs) 4294967295)) None
 
 -- to hold the value on the way changes nothing
-min-value_behind : (v w : ℕ) (bs : List ℕ) → min v 4294967295 ≡ min w 4294967295 → min (value_behind v bs) 4294967295 ≡ min (value_behind w bs) 4294967295
+pub min-value_behind : (v w : ℕ) (bs : List ℕ) → min v 4294967295 ≡ min w 4294967295 → min (value_behind v bs) 4294967295 ≡ min (value_behind w bs) 4294967295
 min-value_behind v w [] e = e
 min-value_behind v w (b ∷ bs) e = min-value_behind (v * 10 + (b - 48)) (w * 10 + (b - 48)) bs (omega arith)
 

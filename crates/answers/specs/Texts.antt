@@ -1,5 +1,5 @@
 -- What is printed of an answer.
-use Rattle.std.specs.Prelude.{ℕ, List, ◌∷◌, ◌++◌, codes, decimal}
+use Rattle.std.specs.Prelude.{ℕ, List, ◌∷◌, ◌++◌, Ok, Err, Result, codes, decimal}
 use Rattle.format.specs.Refusals as refusals
 use Rattle.plain.specs.declared.reader.Ending.{Ending}
 use Rattle.plain.specs.declared.reader.Ending.TheVariants.{Accepted, Failed, Spent}
@@ -29,3 +29,7 @@ abbrev pub refused_text : Refused → List ℕ
 refused_text TooLong = codes "too long"
 refused_text (Delivery refusal) = numbered_text (refusals.numbered refusal)
 refused_text (Configuration fault) = numbered_text (faults.numbered fault)
+
+abbrev pub text_of : Result Reading Refused → List ℕ
+text_of (Ok reading) = reading_text reading
+text_of (Err refused) = refused_text refused

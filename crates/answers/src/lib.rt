@@ -7,3 +7,4 @@ mod texts;
 
 pub use answer::{LONGEST, Reading, Refused, answer_for};
 pub use numbers::number_in;
+pub use texts::{Answer, text_of};

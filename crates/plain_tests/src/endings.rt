@@ -1,5 +1,5 @@
 //! How readings end.
-use answers::answer_for;
+use answers::{answer_for, text_of};
 use samples::{SMALL, Size, changed, sized};
 use std::process::Abort;
 use std::test::Fail;
@@ -11,10 +11,7 @@ fn answers(
     configuration: u32,
     text: &str,
 ) -> Result<(), Fail> {
-    let told = match answer_for(bytes, configuration) {
-        Ok(reading) => reading.to_string(rt.alloc())?,
-        Err(refused) => refused.to_string(rt.alloc())?,
-    };
+    let told = text_of(rt.alloc(), answer_for(bytes, configuration))?;
     assert_eq!(rt; told.as_str(), text);
     Ok(())
 }

@@ -1,7 +1,7 @@
 //! Reads one configuration of the delivery on standard input: `read_one K < DELIVERY`.
 #![tactic(auto)]
 
-use answers::{LONGEST, answer_for, number_in};
+use answers::{Answer, LONGEST, answer_for, number_in};
 use std::io::Read;
 use std::rt::Env;
 use std::{env, io};
@@ -24,8 +24,5 @@ fn main(rt: HostRuntime) -> io::Result<()> {
     };
     let mut bytes = Vec::new(rt.alloc());
     rt.stdin().take(LONGEST as u64 + 1).read_to_end(&mut bytes)?;
-    match answer_for(&bytes, configuration) {
-        Ok(reading) => println!(rt; "{reading}"),
-        Err(refused) => println!(rt; "{refused}"),
-    }
+    println!(rt; "{}", Answer(answer_for(&bytes, configuration)))
 }
