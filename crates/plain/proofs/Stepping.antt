@@ -1,5 +1,5 @@
 -- Where a reader stands, from action to action.
-use Rattle.std.proofs.Common.{◌≡◌, ℕ, ◌+◌, ◌<◌, Bool, true, false, List, [], drop, Some, None, Option, sym, refl, ap, ◌∙◌, add-one, arith}
+use Rattle.std.proofs.Common.{◌≡◌, ℕ, ◌+◌, ◌<◌, Bool, true, false, List, [], drop, Some, None, Option, sym, refl, ap, ◌∙◌, subst, add-one, arith}
 use Rattle.std.proofs.lemmas.Option.{slice_get_within}
 use Rattle.tables.specs.declared.actions.Action.{Action}
 use Rattle.tables.specs.declared.actions.Action.TheVariants.{None as NoSuch, Shift, Reduce, Accept}
@@ -38,6 +38,10 @@ one_more m j r t o e s f g = rw add-one (ap (next m r.configuration) s.shows ∙
 -- so it stands one action later
 pub stands_more : (m : Model) (j : ℕ) (r s : Reader) → s.configuration ≡ r.configuration → Placed m s → shown s ≡ shown_next m r → Stands m j r → Stands m (j + 1) s
 stands_more m j r s same at e h = record { shows = rw (same, add-one) (ap (next m r.configuration) h.shows ∙ sym e); at = at }
+
+-- and where a reader is as it was, it stands where it stood
+pub stands_same : (m : Model) (j n : ℕ) (r s : Reader) → s ≡ r → Stands m (j + n) r → Stands m (j + n) s
+stands_same m j n r s e h = subst (Stands m (j + n)) (sym e) h
 
 -- and a reader shows so many actions later what the reading does
 pub after_more : (m : Model) (n : ℕ) (r s t : Reader) → s.configuration ≡ r.configuration → shown s ≡ shown_after m n r → shown t ≡ shown_next m s → shown t ≡ shown_after m (n + 1) r

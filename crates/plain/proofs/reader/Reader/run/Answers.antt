@@ -7,20 +7,6 @@ use Rattle.plain.specs.Standing.{is_standing}
 use Rattle.plain.proofs.Stepping.{after_more}
 use Rattle.plain.proofs.reader.Reader.run.Goals as goal
 
-pub returns-then-not-step : goal.returns-then-not-step
-returns-then-not-step c =
-    let m = model_of c.args.delivery.now in
-    let none : c.step.result ≡ false = search rules in
-    let kept = c.step.ensures.kept none in
-    let ended : is_standing c.step.new.self.status ≡ false = ap (λ (r : Reader). is_standing r.status) kept ∙ sym c.step.ensures.made ∙ none in
-    record {
-      few = search rules;
-      same = c.step.ensures.same ∙ c.loop-made.invariant.same;
-      over = λ t. absurd (both_ways _ ended t);
-      made = λ at. subst (λ (r : Reader). Placed m r × (shown r ≡ shown_after m c.loop-made.made c.args.self.now)) (sym kept) (c.loop-made.invariant.shows at);
-      stands = λ j s. subst (Stands m (j + c.loop-made.made)) (sym kept) (c.loop-made.invariant.stands j s);
-    }
-
 pub loop-made-preserved : goal.loop-made-preserved
 loop-made-preserved c =
     let m = model_of c.args.delivery.now in

@@ -1,4 +1,4 @@
-use Rattle.std.proofs.Common.{◌≡◌, ℕ, ◌<◌, List, Ok, sym, refl, ap, ◌∙◌}
+use Rattle.std.proofs.Common.{◌≡◌, ℕ, ◌<◌, List, Ok, sym, refl, ap, ◌∙◌, rules}
 use Rattle.std.proofs.lemmas.Bool.{true≢false}
 use Rattle.stacks.specs.Views.{items_of}
 use Rattle.delivery.specs.Model.{finish}
@@ -35,43 +35,11 @@ returns-in-Ok-Shift c =
       stands = λ j s. stands_more m j r _ refl (found s.at).at (shows s.at) s;
     }
 
-pub returns-in-Ok-Reduce : goal.returns-in-Ok-Reduce
-returns-in-Ok-Reduce c =
-    let m = model_of c.args.delivery.now in
-    let r = c.args.self.now in
-    let reduced = told _ _ (items_of c.act.new.stack) _ c.in-Ok-Reduce.ensures c.in-Ok-Reduce.field-0-is in
-    let shows = ap (λ a. shown_as a r.cursor.place (items_of c.act.new.stack)) c.in-Standing.is ∙ sym (shown_more m r c.terminal_at-terminal.result _ c.in-Standing.is c.terminal_at-terminal.ensures reduced) in
-    record {
-      made = sym (ap is_standing c.in-Standing.is);
-      same = refl;
-      kept = λ e. absurd (true≢false e);
-      next = λ at. (at, λ _. shows);
-      stands = λ j s. stands_more m j r _ refl s.at shows s;
-    }
+pub returns-in-Ok-Reduce-clause-stands : goal.returns-in-Ok-Reduce-clause-stands
+returns-in-Ok-Reduce-clause-stands c = λ j s. stands_more (model_of c.args.delivery.now) j c.args.self.now _ refl s.at (search rules) s
 
-pub returns-in-Ok-Accept : goal.returns-in-Ok-Accept
-returns-in-Ok-Accept c =
-    let m = model_of c.args.delivery.now in
-    let r = c.args.self.now in
-    let accepts = told _ _ (items_of c.act.new.stack) _ c.in-Ok-Accept.ensures c.in-Ok-Accept.field-0-is in
-    let shows = sym (shown_more m r c.terminal_at-terminal.result _ c.in-Standing.is c.terminal_at-terminal.ensures accepts) in
-    record {
-      made = sym (ap is_standing c.in-Standing.is);
-      same = refl;
-      kept = λ e. absurd (true≢false e);
-      next = λ at. (at, λ _. shows);
-      stands = λ j s. stands_more m j r _ refl s.at shows s;
-    }
+pub returns-in-Ok-Accept-clause-stands : goal.returns-in-Ok-Accept-clause-stands
+returns-in-Ok-Accept-clause-stands c = λ j s. stands_more (model_of c.args.delivery.now) j c.args.self.now _ refl s.at (search rules) s
 
-pub returns-in-Err : goal.returns-in-Err
-returns-in-Err c =
-    let m = model_of c.args.delivery.now in
-    let r = c.args.self.now in
-    let shows = sym (shown_more m r c.terminal_at-terminal.result _ c.in-Standing.is c.terminal_at-terminal.ensures (sym c.in-Err.ensures)) in
-    record {
-      made = sym (ap is_standing c.in-Standing.is);
-      same = refl;
-      kept = λ e. absurd (true≢false e);
-      next = λ at. (at, λ _. shows);
-      stands = λ j s. stands_more m j r _ refl s.at shows s;
-    }
+pub returns-in-Err-clause-stands : goal.returns-in-Err-clause-stands
+returns-in-Err-clause-stands c = λ j s. stands_more (model_of c.args.delivery.now) j c.args.self.now _ refl s.at (search rules) s
