@@ -1,5 +1,5 @@
 -- A configuration's reading is what an LR parser does on the configuration's tokens.
-use Rattle.std.proofs.Common.{◌≡◌, ℕ, zero, suc, ◌+◌, ◌≤◌, Bool, true, false, cond, ◌&&◌, ◌⊎◌, List, [], ◌∷◌, length, drop, Some, None, Option, sym, refl, ap, ◌∙◌, subst, inl, inr, arith}
+use Rattle.std.proofs.Common.{◌≡◌, ℕ, zero, suc, ◌+◌, ◌≤◌, Bool, true, false, cond, ◌&&◌, ◌⊎◌, List, [], ◌∷◌, ◌++◌, length, drop, Some, None, Option, sym, refl, ap, ◌∙◌, subst, inl, inr, arith}
 use Rattle.std.proofs.lemmas.List.{drop_all}
 use Rattle.std.proofs.lemmas.Option.{slice_get_past}
 use Rattle.std.proofs.lemmas.Bool.{cond-false, cond-true}
@@ -16,6 +16,7 @@ use Rattle.plain.specs.Readings.{Reading, standing, reading, terminal_of}
 use Rattle.plain.specs.declared.reader.Ending.{Ending}
 use Rattle.plain.specs.declared.reader.Ending.TheVariants.{Accepted, Failed, Spent}
 use Rattle.plain.specs.Standing.{Ends, Parses}
+use Rattle.plain.specs.Tokens.{tokens_among, tokens_ahead}
 use Rattle.plain.proofs.Walking.{around_more, drop_record, next_at_end, next_by, none_past}
 use Rattle.plain.proofs.Stepping.{shift_below}
 
@@ -125,6 +126,17 @@ module _ (m : Model) (k : ℕ) where
   parses b budget actions Accepted h = accepted_too (runs b actions) h
   parses b budget actions (Failed p r) h = failed_too p r (runs b actions) h
   parses b budget actions Spent h = (h.0, let a = ahead_too h.1.0 h.1.1.0 (runs b budget) h.1.1.1 in (a.0, (h.1.1.0, a.1)))
+
+  -- a parser's tokens are those that the walk gives, and the end
+  abbrev end : List Token
+  end = record { place = finish m; terminal = 0 } ∷ []
+
+  joined : (p : ℕ) (bs : List Branch) (rs : List Record) → p + length rs ≡ finish m → tokens_from m k p bs rs ≡ tokens_among m k p bs rs ++ end
+  joined p bs [] h = let q : p ≡ finish m = omega arith in ap (λ x. record { place = x; terminal = 0 } ∷ []) q
+  joined p bs (r ∷ rs) h = let more = joined (p + 1) (behind r bs) rs (omega arith) in grind (arith, more)
+
+  pub all_joined : tokens m k ≡ tokens_ahead m k 0 ++ end
+  all_joined = joined 0 [] m.records (omega arith)
 
   -- there is one token more than are counted, the end
   length_from : (p : ℕ) (bs : List Branch) (rs : List Record) → length (tokens_from m k p bs rs) ≡ ones (presence m k bs rs) + 1
