@@ -40,8 +40,8 @@ pub stands_more : (m : Model) (j : ℕ) (r s : Reader) → s.configuration ≡ r
 stands_more m j r s same at e h = record { shows = rw (same, add-one) (ap (next m r.configuration) h.shows ∙ sym e); at = at }
 
 -- and where a reader is as it was, it stands where it stood
-pub stands_same : (m : Model) (j n : ℕ) (r s : Reader) → s ≡ r → Stands m (j + n) r → Stands m (j + n) s
-stands_same m j n r s e h = subst (Stands m (j + n)) (sym e) h
+pub stands_same : (m : Model) (j n i : ℕ) (r s : Reader) → s ≡ r → n ≡ i → Stands m (j + i) r → Stands m (j + n) s
+stands_same m j n i r s e q h = subst (λ x. Stands m (j + x) s) (sym q) (subst (Stands m (j + i)) (sym e) h)
 
 -- and a reader shows so many actions later what the reading does
 pub after_more : (m : Model) (n : ℕ) (r s t : Reader) → s.configuration ≡ r.configuration → shown s ≡ shown_after m n r → shown t ≡ shown_next m s → shown t ≡ shown_after m (n + 1) r

@@ -119,7 +119,6 @@ impl Reader {
     }
 
     /// Makes as many actions as the budget allows, until the reading is over, and answers how many.
-    #[tactic(auto, using(crate::proofs::Stepping::stands_same))]
     pub fn run(&mut self, delivery: &Delivery<'_>, budget: u64) -> u64
         ensures few { result ≤ budget }
         ensures same { self.new.configuration ≡ self.old.configuration }

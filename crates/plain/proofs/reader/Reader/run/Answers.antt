@@ -1,11 +1,13 @@
-use Rattle.std.proofs.Common.{◌≡◌, ◌+◌, true, false, cond, sym, refl, ap, ◌∙◌, subst, arith, rules}
-use Rattle.std.proofs.lemmas.Bool.{both_ways}
+use Rattle.std.proofs.Common.{◌≡◌, ◌+◌, true, false, cond, refl, ◌∙◌, subst, arith, rules}
 use Rattle.delivery.specs.Views.{model_of}
-use Rattle.plain.specs.declared.reader.Reader.{Reader}
 use Rattle.plain.specs.Readers.{Placed, Stands, shown, shown_after}
-use Rattle.plain.specs.Standing.{is_standing}
-use Rattle.plain.proofs.Stepping.{after_more}
+use Rattle.plain.proofs.Stepping.{after_more, stands_same}
 use Rattle.plain.proofs.reader.Reader.run.Goals as goal
+
+pub returns-then-not-step-clause-stands : goal.returns-then-not-step-clause-stands
+returns-then-not-step-clause-stands c = λ j s.
+    let none : c.step.result ≡ false = search rules in
+    stands_same (model_of c.args.delivery.now) j _ c.loop-made.made c.loop-made.self c.step.new.self (c.step.ensures.kept none) (omega arith) (c.loop-made.invariant.stands j s)
 
 pub loop-made-preserved : goal.loop-made-preserved
 loop-made-preserved c =
