@@ -24,6 +24,10 @@ yields_left s (x ∷ xs) t e = let more = yields_left e.0 xs t e.2 in let first 
 pub few : (k : Configuration) → length (tokens_ahead (model_of k.delivery) k.number 0) ≤ 4096
 few k = few_ahead (model_of k.delivery) k.number (is_bounded k.delivery)
 
+-- and no place is past them
+pub few_passed : (s : Tokens) → s.cursor.place ≤ 4096
+few_passed s = let within = s.at.within in omega (arith, (is_bounded s.configuration.delivery).records)
+
 -- going past the record at its place
 pub passed : (s : Tokens) (r : Record) → record_at (model_of s.configuration.delivery) s.cursor.place ≡ Some r → cons_option (token_of s.cursor.place r (has_innermost (items_of s.cursor.frames))) (tokens_ahead (model_of s.configuration.delivery) s.configuration.number (s.cursor.place + 1)) ≡ tokens_left s
 passed s r e = sym (ahead_framed (model_of s.configuration.delivery) s.configuration.number s.cursor.place r e (items_of s.cursor.frames) s.at)

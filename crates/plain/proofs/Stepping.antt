@@ -1,5 +1,5 @@
 -- Where a reader stands, from action to action.
-use Rattle.std.proofs.Common.{◌≡◌, ℕ, ◌+◌, ◌<◌, Bool, true, false, List, [], drop, Some, None, Option, sym, refl, ap, ◌∙◌, subst, add-one, arith}
+use Rattle.std.proofs.Common.{◌≡◌, ℕ, zero, suc, ◌+◌, ◌<◌, ◌≤◌, Bool, true, false, List, [], drop, Some, None, Option, sym, refl, ap, ◌∙◌, subst, add-one, add-suc, add-zero, arith}
 use Rattle.std.proofs.lemmas.Option.{slice_get_within}
 use Rattle.tables.specs.declared.actions.Action.{Action}
 use Rattle.tables.specs.declared.actions.Action.TheVariants.{None as NoSuch, Shift, Reduce, Accept}
@@ -8,10 +8,14 @@ use Rattle.units.specs.declared.records.Record.{Record}
 use Rattle.stacks.specs.Views.{items_of}
 use Rattle.delivery.specs.Bounds.{ActionBound, Bounded}
 use Rattle.delivery.specs.Model.{Model, action_at, finish, goto_at, production_at, record_at}
+use Rattle.delivery.specs.Views.{model_of}
+use Rattle.plain.specs.declared.configuration.Configuration.{Configuration}
 use Rattle.plain.specs.declared.frame.Frame.{Frame}
 use Rattle.plain.specs.declared.reader.Reader.{Reader}
 use Rattle.plain.specs.declared.reader.Status.{Status}
 use Rattle.plain.specs.declared.reader.Status.TheVariants.{Standing, Accepted, Failed}
+use Rattle.plain.specs.declared.tokens.Token.{Token}
+use Rattle.plain.specs.declared.tokens.Tokens.{Tokens}
 use Rattle.plain.specs.Automaton.{Outcome, shifts, reduces, accepts, fails, acted, gone, outcome, reduced, top}
 use Rattle.plain.specs.Branches.{around}
 use Rattle.plain.specs.Frames.{frames_of}
@@ -19,7 +23,9 @@ use Rattle.plain.specs.Places.{At}
 use Rattle.plain.specs.Readers.{Placed, Stands, shown, shown_after, shown_next}
 use Rattle.plain.specs.Readings.{moved, next, reading, terminal_of}
 use Rattle.plain.specs.Standing.{Ends, ending_as, is_standing, shown_as}
-use Rattle.plain.proofs.Walking.{at_start}
+use Rattle.plain.specs.Tokens.{first_or_end, tokens_ahead}
+use Rattle.plain.specs.Walks.{tokens_left}
+use Rattle.plain.proofs.Walking.{Reached, at_start, reaches}
 
 -- at the start
 pub starts_at : (m : Model) (k p : ℕ) (fs : List Frame) → p ≡ 0 → fs ≡ [] → At m k p fs
@@ -46,6 +52,26 @@ stands_same m j n i r s e q h = subst (λ x. Stands m (j + x) s) (sym q) (subst 
 -- and a reader shows so many actions later what the reading does
 pub after_more : (m : Model) (n : ℕ) (r s t : Reader) → s.configuration ≡ r.configuration → shown s ≡ shown_after m n r → shown t ≡ shown_next m s → shown t ≡ shown_after m (n + 1) r
 after_more m n r s t same e f = rw add-one (f ∙ (λ i. next m (same i) (e i)))
+
+-- where a reader shows its configuration's reading after j actions, what it would show n actions later is the reading after j + n
+reading_after : (m : Model) (j n : ℕ) (r : Reader) → reading m r.configuration j ≡ shown r → reading m r.configuration (j + n) ≡ shown_after m n r
+reading_after m j zero r h = rw add-zero h
+reading_after m j (suc n) r h = rw add-suc (ap (next m r.configuration) (reading_after m j n r h))
+
+-- so a reader of the same configuration that shows this shows the reading after as many actions more
+pub stands_after : (m : Model) (j n i : ℕ) (r s : Reader) → s.configuration ≡ r.configuration → shown s ≡ shown_after m i r → n ≡ i → reading m r.configuration j ≡ shown r → reading m s.configuration (j + n) ≡ shown s
+stands_after m j n i r s same e q h =
+    ap (λ k. reading m k (j + n)) same ∙ reading_after m j n r h ∙ ap (λ x. shown_after m x r) q ∙ sym e
+
+-- the token that is taken where those from a place on are left
+pub taken : (s t : Tokens) (x : Token) (p : ℕ) → p ≤ finish (model_of s.configuration.delivery) → tokens_left s ≡ tokens_ahead (model_of s.configuration.delivery) s.configuration.number p → t.configuration ≡ s.configuration → x ≡ first_or_end (model_of s.configuration.delivery) (tokens_left s) → tokens_left t ≡ drop 1 (tokens_left s) → Reached (model_of t.configuration.delivery) t.configuration.number p x (tokens_left t)
+taken s t x p h q e f l =
+    let m = model_of s.configuration.delivery in
+    let k = s.configuration.number in
+    let all = subst (λ ts. Reached m k p (first_or_end m ts) (drop 1 ts)) (sym q) (reaches m k p h) in
+    let first = subst (λ y. Reached m k p y (drop 1 (tokens_left s))) (sym f) all in
+    let left = subst (Reached m k p x) (sym l) first in
+    subst (λ (c : Configuration). Reached (model_of c.delivery) c.number p x (tokens_left t)) (sym e) left
 
 abbrev is_shift : Outcome → Bool
 is_shift (shifts st) = true

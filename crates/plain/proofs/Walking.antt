@@ -1,17 +1,19 @@
 -- The tokens of a configuration, from one record of a unit to the next.
-use Rattle.std.proofs.Common.{◌≡◌, ℕ, zero, suc, ◌+◌, ◌<◌, ◌≤◌, true, false, cond, ◌&&◌, List, [], ◌∷◌, length, take, drop, Some, None, refl, sym, ap, ◌∙◌, add-one, arith, drop-cons}
+use Rattle.std.proofs.Common.{◌≡◌, ℕ, zero, suc, ◌+◌, ◌-◌, ◌<◌, ◌≤◌, Bool, true, false, cond, ◌&&◌, List, [], ◌∷◌, length, take, drop, Some, None, Option, refl, sym, ap, ◌∙◌, subst, add-one, arith, drop-cons}
 use Rattle.std.specs.List.{cons_option, slice_get}
 use Rattle.std.proofs.lemmas.Bool.{cond-false, cond-true}
 use Rattle.std.proofs.lemmas.List.{drop_all}
-use Rattle.std.proofs.lemmas.Option.{get_or_from_slice_get, slice_get_cases, slice_get_within}
+use Rattle.std.proofs.lemmas.Option.{get_or_from_slice_get, slice_get_cases, slice_get_past, slice_get_within}
 use Rattle.units.specs.declared.records.Record.{Record}
 use Rattle.delivery.specs.Bounds.{Bounded}
 use Rattle.delivery.specs.Model.{Model, finish, record_at}
 use Rattle.plain.specs.declared.frame.Frame.{Frame}
+use Rattle.plain.specs.declared.tokens.Token.{Token}
 use Rattle.plain.specs.Branches.{Branch, around, behind, behind_all, first_from, has, is_token, next_place, ones, presence, token_count}
 use Rattle.plain.specs.Frames.{framed, frames_of, has_innermost}
 use Rattle.plain.specs.Places.{At}
-use Rattle.plain.specs.Tokens.{token_of, tokens_among, tokens_ahead}
+use Rattle.plain.specs.Readings.{terminal_of}
+use Rattle.plain.specs.Tokens.{first_or_end, token_of, tokens_among, tokens_ahead}
 use Rattle.plain.proofs.Depth.{few_around}
 use Rattle.plain.proofs.Framing.{framed_behind, innermost_has, length-frames_of}
 
@@ -89,6 +91,46 @@ module _ (m : Model) (k : ℕ) where
 
       pub at_more : (gs : List Frame) → gs ≡ framed m k r fs → At m k (p + 1) gs
       at_more gs q = record { within = let h = within in omega arith; frames = q ∙ framed_more }
+
+  -- a token, or the end, with the tokens behind it, is what a reading comes to from a place on
+  pub record Reached (p : ℕ) (t : Token) (ts : List Token) : Type 0 where
+    pub place : t.place ≡ next_place m k p
+    pub inside : t.place ≤ finish m
+    pub terminal : t.terminal ≡ terminal_of (record_at m t.place)
+    pub left : ts ≡ tokens_ahead m k (t.place + 1)
+
+  abbrev Reaches : ℕ → Type 0
+  Reaches p = Reached p (first_or_end m (tokens_ahead m k p)) (drop 1 (tokens_ahead m k p))
+
+  at_end : (p : ℕ) → record_at m p ≡ None → p ≡ finish m → Reaches p
+  at_end p e q =
+      subst (λ ts. Reached p (first_or_end m ts) (drop 1 ts)) (sym (ahead_end p e))
+      (record {
+        place = sym (next_at_end p e ∙ q);
+        inside = omega arith;
+        terminal = ap terminal_of (sym (slice_get_past m.records (finish m) (omega arith)));
+        left = sym (ahead_end (finish m + 1) (slice_get_past m.records (finish m + 1) (omega arith)));
+      })
+
+  by_record : (p : ℕ) (r : Record) → record_at m p ≡ Some r → Reaches (p + 1) → Reaches p
+  by_record p r e more =
+      subst (λ ts. Reached p (first_or_end m ts) (drop 1 ts)) (sym (ahead_by p r e))
+      (by (is_token r && has m k (around m p)) (next_by p r e))
+    where
+      by : (b : Bool) → next_place m k p ≡ cond b p (next_place m k (p + 1)) → (let ts = cons_option (cond b (Some (record { place = p; terminal = terminal_of (Some r) })) None) (tokens_ahead m k (p + 1)) in Reached p (first_or_end m ts) (drop 1 ts))
+      by true q = record { place = sym q; inside = let h = within p r e in omega arith; terminal = ap terminal_of (sym e); left = refl }
+      by false q = record { place = more.place ∙ sym q; inside = more.inside; terminal = more.terminal; left = more.left }
+
+  reach : (n p : ℕ) → p + n ≡ finish m → Reaches p
+  reach zero p h = at_end p (slice_get_past m.records p (omega arith)) (omega arith)
+  reach (suc n) p h = by (record_at m p) refl (reach n (p + 1) (omega arith))
+    where
+      by : (o : Option Record) → record_at m p ≡ o → Reaches (p + 1) → Reaches p
+      by None e more = absurd (let past = none_past m.records p e in omega arith)
+      by (Some r) e more = by_record p r e more
+
+  pub reaches : (p : ℕ) → p ≤ finish m → Reaches p
+  reaches p h = reach (finish m - p) p (omega arith)
 
   -- there are as many tokens as are counted
   length-among : (p : ℕ) (bs : List Branch) (rs : List Record) → length (tokens_among m k p bs rs) ≡ ones (presence m k bs rs)

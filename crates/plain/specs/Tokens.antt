@@ -1,8 +1,9 @@
 -- The tokens of a configuration as a list, without the end.
 use Rattle.std.specs.Prelude.{ℕ, ◌+◌, Bool, cond, ◌&&◌, List, [], ◌∷◌, drop, Some, None, Option}
-use Rattle.std.specs.List.{cons_option}
+use Rattle.std.specs.List.{cons_option, slice_get}
+use Rattle.std.specs.Option.{unwrap_or}
 use Rattle.units.specs.declared.records.Record.{Record}
-use Rattle.delivery.specs.Model.{Model}
+use Rattle.delivery.specs.Model.{Model, finish}
 use Rattle.plain.specs.declared.tokens.Token.{Token}
 use Rattle.plain.specs.Branches.{Branch, around, behind, has, is_token}
 use Rattle.plain.specs.Readings.{terminal_of}
@@ -20,3 +21,7 @@ module _ (m : Model) (k : ℕ) where
 -- those of k from place p on
 abbrev pub tokens_ahead : Model → ℕ → ℕ → List Token
 tokens_ahead m k p = tokens_among m k p (around m p) (drop p m.records)
+
+-- the first of these tokens, or the unit's end where there is none
+abbrev pub first_or_end : Model → List Token → Token
+first_or_end m ts = unwrap_or (slice_get ts 0) (record { place = finish m; terminal = 0 })
